@@ -1,0 +1,16 @@
+-- One pixel after a list of items, each drawn wholly before the next.
+use Rattle.std.specs.Prelude.{ℕ, List, [], ◌∷◌, if◌then◌else◌}
+use Rattle.gl_records.specs.declared.item.Item.{Item}
+use Rattle.gl_records.specs.declared.item.Item.TheVariants.{Clear}
+use Rattle.gl_records.specs.declared.pixel.Pixel.{Pixel}
+use Rattle.gl_records.specs.Clear.{clear_step}
+use Rattle.gl_records.specs.PixelBox.{holds}
+
+-- pixel (x, y) after one item
+abbrev pub step : Item → ℕ → ℕ → Pixel → Pixel
+step (Clear clear) x y pixel = if holds clear.area x y then clear_step clear pixel else pixel
+
+-- pixel (x, y) after the items in their order
+abbrev pub after : List Item → ℕ → ℕ → Pixel → Pixel
+after [] x y pixel = pixel
+after (item ∷ items) x y pixel = after items x y (step item x y pixel)

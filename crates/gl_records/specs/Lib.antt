@@ -1,0 +1,4 @@
+pub mod After
+pub mod Clear
+pub mod PixelBox
+pub mod Surface

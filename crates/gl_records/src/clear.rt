@@ -1,0 +1,15 @@
+use crate::pixel_box::PixelBox;
+
+/// A Clear that touches something (OpenGL ES 1.1.12, 4.2.3). The context makes it of the record, and the
+/// rasteriser uses it up. A part that is absent leaves what it stands for as it was.
+#[derive(Clone, Copy, Debug, PartialEq, Eq)]
+pub struct ClearItem {
+    /// The pixels that are cleared.
+    pub area: PixelBox,
+    /// The colour and the colour mask, both R G B A.
+    pub color: Option<([u8; 4], [bool; 4])>,
+    /// The depth, 0 to 16777215.
+    pub depth: Option<u32>,
+    /// The stencil value, and the bits of it that are written.
+    pub stencil: Option<(u8, u8)>,
+}

@@ -1,0 +1,8 @@
+use crate::clear::ClearItem;
+
+/// What a record draws, in one piece: it acts on each pixel by itself, and wholly before the next item.
+/// The collecting side makes items and the shading side uses them up.
+#[derive(Clone, Copy, Debug, PartialEq, Eq)]
+pub enum Item {
+    Clear(ClearItem),
+}

@@ -1,0 +1,33 @@
+//! The plain types that the crates hand to one another, and what is true of one pixel at a time.
+//!
+//! The definitions in `specs/` are those of the immediate renderer: what an item does to a pixel, and the
+//! pixel after a list of items. They know no tile, no pass and no waiting; every crate above cites them.
+//!
+//! ```text
+//! let area = PixelBox { x0: 0, y0: 0, x1: 2, y1: 1 };
+//! area.holds(1, 0) // true
+//! area.holds(2, 0) // false
+//! ```
+#![tactic(auto)]
+
+mod clear;
+mod clip_vertex;
+mod item;
+mod pixel;
+mod pixel_box;
+mod prim;
+mod rec;
+mod setup_rules;
+mod size;
+mod tile_rect;
+
+pub use clear::ClearItem;
+pub use clip_vertex::ClipVertex;
+pub use item::Item;
+pub use pixel::Pixel;
+pub use pixel_box::PixelBox;
+pub use prim::{Prim, PrimKind, VertexOut};
+pub use rec::Rec;
+pub use setup_rules::SetupRules;
+pub use size::Size;
+pub use tile_rect::TileRect;
