@@ -1,13 +1,21 @@
-// A library with one function.
+//! A trace, from bytes to records.
+//!
+//! `specs/Trace.antt` says what every list of bytes is: a malformed header with its cause, or a size, a list
+//! of records and an ending, which is End or the first condition that makes the trace malformed. [`Reader`]
+//! takes the bytes of a source piece by piece and answers exactly that, record by record.
+//!
+//! ```text
+//! let (mut reader, size) = Reader::start(alloc, &mut source)?;
+//! while let rec = reader.next(&mut source)? { .. } // Rec::End is the last
+//! ```
 #![tactic(auto)]
 
-ghost use Rattle.std.specs.Prelude.{◌≡◌};
-ghost use Rattle.trace_reader.specs.Echo.{echo_of};
+mod cause;
+mod fill;
+mod reader;
+mod record;
+mod stage;
+mod table;
 
-// The `ensures` clause is the contract: what `echo` returns is `echo_of` of its argument, a definition
-// in `specs/Echo.antt`, which a caller's clause can cite too.
-pub fn echo(x: usize) -> usize
-    ensures { result ≡ echo_of x }
-{
-    x
-}
+pub use cause::{Cause, ReadEnd};
+pub use reader::Reader;

@@ -1,0 +1,11 @@
+-- How far a reader has come.
+use Rattle.std.specs.Prelude.{ℕ}
+use Rattle.trace_reader.specs.declared.stage.Stage.{Stage}
+
+pub record Progress : Type 0 where
+  -- the whole records that it has read
+  pub index : ℕ
+  -- the bytes of the header and of these records
+  pub offset : ℕ
+  -- whether it reads on
+  pub stage : Stage

@@ -1,0 +1,169 @@
+ghost use Rattle.std.specs.Prelude.{◌≡◌, ◌≢◌, ◌⊎◌, ◌+◌, ◌*◌, ◌^◌, ◌≤◌, [], false, Some, Ok, Err, IfOk, IfErr, IfSome, MatchBool};
+ghost use Rattle.outer_io.specs.Faults.{Rose};
+ghost use Rattle.trace_reader.specs.Trace.{is_end, is_side as is_side_length, IsSize};
+ghost use Rattle.trace_reader.specs.Reading.{Reads, ReadsAt, Starts, stage_after};
+
+use crate::cause::{Cause, ReadEnd};
+use crate::fill::fill;
+use crate::record::{Stop, read_record};
+use crate::stage::Stage;
+use byteorder::{ByteOrder, LittleEndian};
+use gl_records::{Rec, Size};
+use outer_io::Source;
+use std::alloc::Global;
+use std::marker::Model;
+
+/// The greatest side of a surface, in pixels.
+const GREATEST_SIDE: u16 = 1024;
+
+/// Reads a trace record by record. It knows how far it has come, and keeps its last answer.
+#[derive(Drop)]
+pub struct Reader {
+    index: u32,
+    offset: u32,
+    stage: Stage,
+}
+
+impl Model for Reader {
+    ghost use Rattle.std.specs.Prelude.{◌*◌, ◌^◌, ◌≤◌};
+    ghost use Rattle.trace_reader.specs.Progress.{Progress};
+
+    ghost Value = { Progress };
+
+    ghost view = { λ reader. record { index = reader.index; offset = reader.offset; stage = reader.stage } };
+
+    // A record takes eight bytes or more, and none ends past the greatest trace.
+    ghost invariant = { λ reader. (8 * reader.index ≤ reader.offset) × (reader.offset ≤ 2 ^ 28) };
+}
+
+impl Reader {
+    /// Reads the header. A refusal has index 0 and offset 0.
+    pub fn start<S: Source>(_alloc: Global, source: &mut S) -> Result<(Reader, Size), ReadEnd>
+        ensures trace { IfSome (S.rest source.old) (λ bytes. Starts bytes result (S.rest source.new)) }
+        ensures reading { IfOk result (λ begun. begun.0.stage ≡ Stage.Reading) }
+        ensures sides { IfOk result (λ begun. IsSize begun.1) }
+        ensures read_fault { result ≡ Err ReadEnd.ReadFault → Rose (S.faults source.old) (S.faults source.new) }
+        ensures faults { S.faults source.old ≤ S.faults source.new }
+    {
+        let mut bytes = [0; 8];
+        if fill(source, &mut bytes)? < 8 {
+            return Err(bad_header(Cause::Short));
+        }
+        if !bytes.starts_with(b"GLT1") {
+            return Err(bad_header(Cause::BadMagic));
+        }
+        let w = LittleEndian::read_u16(&bytes[4..]);
+        let h = LittleEndian::read_u16(&bytes[6..]);
+        if !is_side(w) || !is_side(h) {
+            return Err(bad_header(Cause::BadSize));
+        }
+        let reader = Reader {
+            index: 0,
+            offset: 8,
+            stage: Stage::Reading,
+        };
+        Ok((reader, Size { w, h }))
+    }
+
+    /// Reads the next record. End is the last, and only where no byte follows it.
+    pub fn next<S: Source>(&mut self, source: &mut S) -> Result<Rec, ReadEnd>
+        ensures trace { self.old.stage ≡ Stage.Reading
+            → IfSome (S.rest source.old) (λ bytes. Reads self.old bytes result self.new (S.rest source.new)) }
+
+        // After End and after an error it answers the same again, and leaves the source alone.
+        ensures ended { self.old.stage ≡ Stage.Ended → result ≡ Ok Rec.End }
+        ensures stopped { (end : ReadEnd) → self.old.stage ≡ Stage.Stopped end → result ≡ Err end }
+        ensures again { self.old.stage ≢ Stage.Reading → (self.new ≡ self.old) × (source.new ≡ source.old) }
+        ensures stage { self.new.stage ≡ stage_after result }
+
+        // Each record takes eight bytes or more of the greatest trace, so there is an end to them.
+        ensures advances { IfOk result (λ rec. is_end rec ≡ false → self.old.offset + 8 ≤ self.new.offset) }
+        ensures within { self.new.offset ≤ 2 ^ 28 }
+
+        ensures read_fault { result ≡ Err ReadEnd.ReadFault
+            → Rose (S.faults source.old) (S.faults source.new) ⊎ (self.old.stage ≡ Stage.Stopped ReadEnd.ReadFault) }
+        ensures faults { S.faults source.old ≤ S.faults source.new }
+    {
+        match self.stage {
+            Stage::Reading => {}
+            Stage::Ended => return Ok(Rec::End),
+            Stage::Stopped(end) => return Err(end),
+        }
+        match read_at(self.index, self.offset, source) {
+            Ok((Rec::End, _)) => {
+                self.stage = Stage::Ended;
+                Ok(Rec::End)
+            }
+            Ok((rec, length)) => {
+                self.index += 1;
+                self.offset += length;
+                Ok(rec)
+            }
+            Err(end) => {
+                self.stage = Stage::Stopped(end);
+                Err(end)
+            }
+        }
+    }
+}
+
+fn bad_header(cause: Cause) -> ReadEnd
+    ensures { result ≡ ReadEnd.Malformed 0 0 cause }
+{
+    ReadEnd::Malformed {
+        index: 0,
+        offset: 0,
+        cause,
+    }
+}
+
+fn is_side(side: u16) -> bool
+    ensures { result ≡ is_side_length side }
+{
+    1 <= side && side <= GREATEST_SIDE
+}
+
+/// The record at a place and how many bytes it takes, or how the trace ends there.
+fn read_at<S: Source>(index: u32, offset: u32, source: &mut S) -> Result<(Rec, u32), ReadEnd>
+    requires before { 8 * index ≤ offset }
+    requires within { offset ≤ 2 ^ 28 }
+    ensures trace { IfSome (S.rest source.old) (λ bytes. ReadsAt index offset bytes result (S.rest source.new)) }
+    ensures longer { IfOk result (λ found. (8 ≤ found.1) × (offset + found.1 ≤ 2 ^ 28)) }
+    ensures read_fault { result ≡ Err ReadEnd.ReadFault → Rose (S.faults source.old) (S.faults source.new) }
+    ensures faults { S.faults source.old ≤ S.faults source.new }
+{
+    let (rec, length) = match read_record(offset, source) {
+        Ok(found) => found,
+        Err(Stop::Malformed(cause)) => {
+            return Err(ReadEnd::Malformed {
+                index,
+                offset,
+                cause,
+            });
+        }
+        Err(Stop::Failed) => return Err(ReadEnd::ReadFault),
+    };
+    match rec {
+        Rec::End => {
+            if is_at_end(source)? {
+                return Ok((Rec::End, length));
+            }
+            Err(ReadEnd::Malformed {
+                index: index + 1,
+                offset: offset + length,
+                cause: Cause::Trailing,
+            })
+        }
+        rec => Ok((rec, length)),
+    }
+}
+
+/// Whether the source has no byte left. Where it has, one is taken.
+fn is_at_end<S: Source>(source: &mut S) -> Result<bool, ReadEnd>
+    ensures end { IfSome (S.rest source.old) (λ rest. IfOk result (λ at_end.
+        MatchBool at_end ((rest ≡ []) × (S.rest source.new ≡ Some [])) (rest ≢ []))) }
+    ensures read_fault { IfErr result (λ end. (end ≡ ReadEnd.ReadFault) × Rose (S.faults source.old) (S.faults source.new)) }
+    ensures faults { S.faults source.old ≤ S.faults source.new }
+{
+    Ok(fill(source, &mut [0; 1])? == 0)
+}
