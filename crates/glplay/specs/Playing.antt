@@ -1,0 +1,29 @@
+-- A trace that is being played.
+use Rattle.std.specs.Prelude.{ℕ, ◌+◌}
+use Rattle.gl_records.specs.declared.rec.Rec.{Rec}
+use Rattle.gl_records.specs.declared.size.Size.{Size}
+use Rattle.gl_records.specs.Surface.{Surface, opening_surface, drawn}
+use Rattle.glplay.specs.declared.context.Context.{Context}
+use Rattle.glplay.specs.Call.{Called, called}
+use Rattle.glplay.specs.Context.{opening_context}
+
+pub record Playing : Type 0 where
+  pub size : Size
+  pub context : Context
+  pub surface : Surface
+  -- the records that were run
+  pub index : ℕ
+
+abbrev pub opening : Size → Playing
+opening size = record { size = size; context = opening_context; surface = opening_surface size; index = 0 }
+
+-- the next record's command, on the surface before it
+abbrev pub call : Playing → Rec → Called
+call now rec = called now.size now.context now.surface now.index rec
+
+-- after it each of its items is drawn
+abbrev pub after_call : Playing → Called → Playing
+after_call now done = record now { context = done.context; surface = drawn done.items now.surface; index = now.index + 1 }
+
+abbrev pub ran : Playing → Rec → Playing
+ran now rec = after_call now (call now rec)
