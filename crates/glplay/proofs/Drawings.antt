@@ -46,3 +46,7 @@ rows_drawn items (first ∷ old) new same each =
     let was = get_or-map (λ (row : Vec Pixel). row.items) (first ∷ old) k first d k-old in
     let is = get_or-map (λ (row : Vec Pixel). row.items) new k first d k-new in
     is ∙ each k first k-old ∙ ap (λ (row : List Pixel). drawn_row items k row) (sym was))
+
+-- no item changes nothing
+pub drawn-nil : (surface : Surface) → drawn [] surface ≡ surface
+drawn-nil surface = sym (surface_drawn [] surface surface refl (λ k d within. row_drawn [] k (get_or surface k d) (get_or surface k d) refl (λ i e inside. refl)))

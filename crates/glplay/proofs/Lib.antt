@@ -1,3 +1,5 @@
 pub mod Drawings
 pub mod Growth
+pub mod SoFar
+pub mod Steps
 pub mod WordLemmas

@@ -1,8 +1,9 @@
 -- What a run answers, and how its outputs grew.
-use Rattle.std.specs.Prelude.{◌≡◌, ℕ, List, Option, Result, Ok, Err}
+use Rattle.std.specs.Prelude.{◌≡◌, ℕ, List, [], Option, Some, Result, Ok, Err}
 use Rattle.std.specs.Io.KnownBytes.{Appends}
 use Rattle.outer_io.specs.Bytes.{AppendsFront}
 use Rattle.trace_reader.specs.Trace.{Ending, Ended, Malformed, Outcome, BadHeader, Readable, trace_of}
+use Rattle.glplay.specs.declared.fault.Fault.{Fault}
 use Rattle.glplay.specs.declared.status.Status.{Status}
 use Rattle.glplay.specs.declared.status.Status.TheVariants.{Done, BadWords, Refused, NoMemory, ReadFault, WriteFault}
 
@@ -45,3 +46,10 @@ Grew status old new whole = Appends old new whole
 abbrev pub Puts : {A E : Type 0} → Result A E → Option (List ℕ) → Option (List ℕ) → List ℕ → Type 0
 Puts (Ok value) old new whole = Appends old new whole
 Puts (Err fault) old new whole = AppendsFront old new whole
+
+-- a trace with this ending is answered so, unless a fault comes first; one with End was read whole
+abbrev pub Plays : Ending → Result Status Fault → Option (List ℕ) → Type 0
+Plays Ended (Ok status) left = (status ≡ Done) × (left ≡ Some [])
+Plays (Malformed at) (Ok status) left = status ≡ Refused
+Plays Ended (Err fault) left = Unit {0}
+Plays (Malformed at) (Err fault) left = Unit {0}

@@ -23,7 +23,11 @@ call now rec = called now.size now.context now.surface now.index rec
 
 -- after it each of its items is drawn
 abbrev pub after_call : Playing → Called → Playing
-after_call now done = record now { context = done.context; surface = drawn done.items now.surface; index = now.index + 1 }
+after_call now done = record now { context = done.context; surface = drawn done.items now.surface }
 
+abbrev pub ran_in_place : Playing → Rec → Playing
+ran_in_place now rec = after_call now (call now rec)
+
+-- and the record is counted
 abbrev pub ran : Playing → Rec → Playing
-ran now rec = after_call now (call now rec)
+ran now rec = record (ran_in_place now rec) { index = now.index + 1 }

@@ -1,14 +1,59 @@
-//! The lines of the log.
-ghost use Rattle.std.specs.Prelude.{◌≡◌, ◌/◌, ◌%◌, ◌<◌, IfOk};
+//! The lines of the log. Each is put in one piece.
+ghost use Rattle.std.specs.Prelude.{◌≡◌, ◌≢◌, ◌/◌, ◌%◌, ◌<◌, ◌≤◌, Err, IfOk};
+ghost use Rattle.outer_io.specs.Faults.{Rose};
+ghost use Rattle.glplay.specs.Answer.{Puts};
 ghost use Rattle.glplay.specs.Log.{hex_digit as hex_digit_of, hex4 as hex4_of, raise_line as raise_line_of, end_line as end_line_of, refused_line as refused_line_of, cause_name};
 
+use crate::fault::Fault;
+use crate::output::put;
 use gl_tokens::GlError;
 use itoa::Buffer;
+use outer_io::Sink;
 use std::alloc::{AllocError, Global};
 use trace_reader::Cause;
 
 /// `raise INDEX CODE`: the command of this record makes this error.
-pub fn raise_line(alloc: Global, index: u32, error: GlError) -> Result<Vec<u8>, AllocError>
+pub fn put_raise<L: Sink>(
+    alloc: Global,
+    log: &mut L,
+    index: u32,
+    error: GlError,
+) -> Result<(), Fault>
+    ensures line { Puts result (L.held log.old) (L.held log.new) (raise_line_of index error) }
+    ensures write_fault { result ≡ Err Fault.WriteFault → Rose (L.faults log.old) (L.faults log.new) }
+    ensures no_read_fault { result ≢ Err Fault.ReadFault }
+    ensures faults { L.faults log.old ≤ L.faults log.new }
+{
+    put(log, &raise_line(alloc, index, error)?)
+}
+
+/// `end COUNT`: the trace was read to its end, and so many records stand before End.
+pub fn put_end<L: Sink>(alloc: Global, log: &mut L, count: u32) -> Result<(), Fault>
+    ensures line { Puts result (L.held log.old) (L.held log.new) (end_line_of count) }
+    ensures write_fault { result ≡ Err Fault.WriteFault → Rose (L.faults log.old) (L.faults log.new) }
+    ensures no_read_fault { result ≢ Err Fault.ReadFault }
+    ensures faults { L.faults log.old ≤ L.faults log.new }
+{
+    put(log, &end_line(alloc, count)?)
+}
+
+/// `refused INDEX OFFSET CAUSE`: the trace is malformed at this record and byte.
+pub fn put_refused<L: Sink>(
+    alloc: Global,
+    log: &mut L,
+    index: u32,
+    offset: u32,
+    cause: Cause,
+) -> Result<(), Fault>
+    ensures line { Puts result (L.held log.old) (L.held log.new) (refused_line_of index offset cause) }
+    ensures write_fault { result ≡ Err Fault.WriteFault → Rose (L.faults log.old) (L.faults log.new) }
+    ensures no_read_fault { result ≢ Err Fault.ReadFault }
+    ensures faults { L.faults log.old ≤ L.faults log.new }
+{
+    put(log, &refused_line(alloc, index, offset, cause)?)
+}
+
+fn raise_line(alloc: Global, index: u32, error: GlError) -> Result<Vec<u8>, AllocError>
     ensures { IfOk result (λ line. line.items ≡ raise_line_of index error) }
 {
     let mut line = Vec::from_slice(alloc, b"raise ")?;
@@ -19,8 +64,7 @@ pub fn raise_line(alloc: Global, index: u32, error: GlError) -> Result<Vec<u8>, 
     Ok(line)
 }
 
-/// `end COUNT`: the trace was read to its end, and so many records stand before End.
-pub fn end_line(alloc: Global, count: u32) -> Result<Vec<u8>, AllocError>
+fn end_line(alloc: Global, count: u32) -> Result<Vec<u8>, AllocError>
     ensures { IfOk result (λ line. line.items ≡ end_line_of count) }
 {
     let mut line = Vec::from_slice(alloc, b"end ")?;
@@ -29,13 +73,7 @@ pub fn end_line(alloc: Global, count: u32) -> Result<Vec<u8>, AllocError>
     Ok(line)
 }
 
-/// `refused INDEX OFFSET CAUSE`: the trace is malformed at this record and byte.
-pub fn refused_line(
-    alloc: Global,
-    index: u32,
-    offset: u32,
-    cause: Cause,
-) -> Result<Vec<u8>, AllocError>
+fn refused_line(alloc: Global, index: u32, offset: u32, cause: Cause) -> Result<Vec<u8>, AllocError>
     ensures { IfOk result (λ line. line.items ≡ refused_line_of index offset cause) }
 {
     let mut line = Vec::from_slice(alloc, b"refused ")?;

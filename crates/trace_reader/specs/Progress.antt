@@ -1,6 +1,7 @@
 -- How far a reader has come.
 use Rattle.std.specs.Prelude.{ℕ}
 use Rattle.trace_reader.specs.declared.stage.Stage.{Stage}
+use Rattle.trace_reader.specs.declared.stage.Stage.TheVariants.{Reading}
 
 pub record Progress : Type 0 where
   -- the whole records that it has read
@@ -9,3 +10,7 @@ pub record Progress : Type 0 where
   pub offset : ℕ
   -- whether it reads on
   pub stage : Stage
+
+-- behind the header
+abbrev pub at_first_record : Progress
+at_first_record = record { index = 0; offset = 8; stage = Reading }

@@ -1,5 +1,6 @@
 ghost use Rattle.std.specs.Prelude.{◌≡◌, ◌≢◌, ◌⊎◌, ◌+◌, ◌*◌, ◌^◌, ◌≤◌, [], false, Some, Ok, Err, IfOk, IfErr, IfSome, MatchBool};
 ghost use Rattle.outer_io.specs.Faults.{Rose};
+ghost use Rattle.trace_reader.specs.Progress.{at_first_record};
 ghost use Rattle.trace_reader.specs.Trace.{is_end, is_side as is_side_length, IsSize};
 ghost use Rattle.trace_reader.specs.Reading.{Reads, ReadsAt, Starts, stage_after};
 
@@ -40,7 +41,7 @@ impl Reader {
     /// Reads the header. A refusal has index 0 and offset 0.
     pub fn start<S: Source>(_alloc: Global, source: &mut S) -> Result<(Reader, Size), ReadEnd>
         ensures trace { IfSome (S.rest source.old) (λ bytes. Starts bytes result (S.rest source.new)) }
-        ensures reading { IfOk result (λ begun. begun.0.stage ≡ Stage.Reading) }
+        ensures begun { IfOk result (λ begun. begun.0 ≡ at_first_record) }
         ensures sides { IfOk result (λ begun. IsSize begun.1) }
         ensures read_fault { result ≡ Err ReadEnd.ReadFault → Rose (S.faults source.old) (S.faults source.new) }
         ensures faults { S.faults source.old ≤ S.faults source.new }

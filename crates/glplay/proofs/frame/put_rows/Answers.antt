@@ -19,6 +19,6 @@ returns-in_err-put-clause-rows g c =
     let p = err_from_is_err_and c.from_residual-in_err-put.result c.from_residual-in_err-put.ensures.1 in
     let split = surface_split c.args.rows.now c.loop-row.row-index c.row-item.result c.loop-row-test.true in
     let bytes : c.deref.result.now ≡ row_bytes (get_or c.args.rows.now c.loop-row.row-index c.row-item.result).items =
-      c.deref.ensures.value ∙ c.in_ok-write_row.ensures ∙ ap (λ (row : Vec Pixel). row_bytes row.items) c.row-item.is in
+    c.deref.ensures.value ∙ c.in_ok-write_row.ensures ∙ ap (λ (row : Vec Pixel). row_bytes row.items) c.row-item.is in
     let front = rw bytes at c.in_err-put.ensures.piece in
     rw (p.1, split) (front_after _ _ _ _ _ c.loop-row.invariant.put (front_goes_on _ _ _ _ front))
