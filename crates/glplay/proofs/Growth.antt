@@ -1,5 +1,5 @@
 -- How outputs grow, step after step.
-use Rattle.std.proofs.Common.{◌≡◌, ◌<◌, ◌∙◌, ℕ, zero, suc, List, [], ◌∷◌, ◌++◌, length, get_or, take, drop, Option, Result, Ok, Err, refl, sym, ap, subst, append_assoc, arith}
+use Rattle.std.proofs.Common.{◌≡◌, ◌<◌, ◌∙◌, ℕ, zero, suc, List, [], ◌∷◌, ◌++◌, length, get_or, take, drop, Option, Some, None, IfSome, Result, Ok, Err, refl, sym, ap, subst, append_assoc, arith}
 use Rattle.std.specs.Global.{Vec}
 use Rattle.std.specs.Io.KnownBytes.{Appends}
 use Rattle.std.proofs.KnownBytes.{Appends-trans, Appends-nil}
@@ -39,3 +39,8 @@ surface_split (row ∷ rows) zero d within = refl
 surface_split (row ∷ rows) (suc i) d within =
     ap (λ (l : List ℕ). row_bytes row.items ++ l) (surface_split rows i d (omega arith))
     ∙ sym (append_assoc (row_bytes row.items) (surface_bytes (rows_of (take i rows))) (row_bytes (get_or rows i d).items ++ surface_bytes (rows_of (drop (suc i) rows))))
+
+-- nothing of anything was put
+pub none_of_known : (known a : Option (List ℕ)) (whole : List ℕ → List ℕ) → IfSome known (λ bytes. AppendsFront a a (whole bytes))
+none_of_known None a whole = tt
+none_of_known (Some bytes) a whole = front_none a (whole bytes)

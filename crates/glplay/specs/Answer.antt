@@ -53,3 +53,8 @@ Plays Ended (Ok status) left = (status ≡ Done) × (left ≡ Some [])
 Plays (Malformed at) (Ok status) left = status ≡ Refused
 Plays Ended (Err fault) left = Unit {0}
 Plays (Malformed at) (Err fault) left = Unit {0}
+
+abbrev pub PlaysOutcome : Outcome → Result Status Fault → Option (List ℕ) → Type 0
+PlaysOutcome (BadHeader cause) (Ok status) left = status ≡ Refused
+PlaysOutcome (BadHeader cause) (Err fault) left = Unit {0}
+PlaysOutcome (Readable size tail) result left = Plays tail.ending result left
