@@ -1,0 +1,6 @@
+//! Whole runs, byte for byte.
+
+mod faults;
+mod pictures;
+mod refusals;
+mod support;

@@ -1,0 +1,102 @@
+//! Traces that are put together, and runs over memory.
+
+use crate::status::Status;
+use crate::top_call::glplay;
+use outer_io::{NeverSink, NeverSource, NoGate};
+use std::alloc::{AllocError, Global};
+use std::thread::Threads;
+
+/// A trace of 1 by 1: a red clear colour, Clear, Swap, End.
+pub const RED: [u8; 60] = [
+    0x47, 0x4c, 0x54, 0x31, 1, 0, 1, 0, // GLT1, 1 by 1
+    0x62, 0, 0, 0, 16, 0, 0, 0, 0, 0, 1, 0, 0, 0, 0, 0, 0, 0, 0, 0, 0, 0, 1, 0, // ClearColorx
+    0x65, 0, 0, 0, 4, 0, 0, 0, 0, 0x40, 0, 0, // Clear
+    2, 0, 0, 0, 0, 0, 0, 0, // Swap
+    1, 0, 0, 0, 0, 0, 0, 0, // End
+];
+
+/// A trace in the making.
+#[derive(Drop)]
+pub struct Trace {
+    pub bytes: Vec<u8>,
+}
+
+impl Trace {
+    pub fn new(alloc: Global, w: u16, h: u16) -> Result<Trace, AllocError> {
+        let mut bytes = Vec::from_slice(alloc, b"GLT1")?;
+        bytes.extend_from_slice(&w.to_le_bytes())?;
+        bytes.extend_from_slice(&h.to_le_bytes())?;
+        Ok(Trace { bytes })
+    }
+
+    /// A record with these words.
+    pub fn record(&mut self, opcode: u16, words: &[i32]) -> Result<(), AllocError> {
+        let length = (words.len() as u32).wrapping_mul(4);
+        self.bytes.extend_from_slice(&opcode.to_le_bytes())?;
+        self.bytes.extend_from_slice(&[0, 0])?;
+        self.bytes.extend_from_slice(&length.to_le_bytes())?;
+        for word in words {
+            self.bytes.extend_from_slice(&word.to_le_bytes())?;
+        }
+        Ok(())
+    }
+
+    pub fn clear_color(&mut self, color: [i32; 4]) -> Result<(), AllocError> {
+        self.record(0x62, &color)
+    }
+
+    pub fn clear(&mut self, mask: i32) -> Result<(), AllocError> {
+        self.record(0x65, &[mask])
+    }
+
+    pub fn swap(&mut self) -> Result<(), AllocError> {
+        self.record(0x02, &[])
+    }
+
+    pub fn end(&mut self) -> Result<(), AllocError> {
+        self.record(0x01, &[])
+    }
+}
+
+/// What a run over memory left.
+#[derive(Drop)]
+pub struct Played {
+    pub status: Status,
+    pub frames: NeverSink,
+    pub log: NeverSink,
+}
+
+/// Runs the words over the bytes of a trace.
+pub fn run<R: Threads + AllocGlobal>(
+    rt: &R,
+    words: &[&str],
+    bytes: &[u8],
+) -> Result<Played, AllocError> {
+    let alloc = rt.alloc();
+    let mut owned = Vec::new(alloc);
+    for word in words {
+        owned.push(String::from_str(alloc, word)?)?;
+    }
+    let mut trace = NeverSource::new(Vec::from_slice(alloc, bytes)?);
+    let mut frames = NeverSink::new(alloc);
+    let mut log = NeverSink::new(alloc);
+    let status = glplay(
+        rt,
+        alloc,
+        &owned,
+        &mut trace,
+        &mut frames,
+        &mut log,
+        &NoGate,
+    );
+    Ok(Played {
+        status,
+        frames,
+        log,
+    })
+}
+
+/// Plays the bytes of a trace.
+pub fn play<R: Threads + AllocGlobal>(rt: &R, bytes: &[u8]) -> Result<Played, AllocError> {
+    run(rt, &["play"], bytes)
+}
