@@ -1,4 +1,5 @@
 //! Traces that are put together, and runs over memory.
+ghost use Rattle.std.specs.Prelude.{◌≤◌, length};
 
 use crate::status::Status;
 use crate::top_call::glplay;
@@ -29,9 +30,11 @@ impl Trace {
         Ok(Trace { bytes })
     }
 
-    /// A record with these words.
-    pub fn record(&mut self, opcode: u16, words: &[i32]) -> Result<(), AllocError> {
-        let length = (words.len() as u32).wrapping_mul(4);
+    /// A record with these words, four at most.
+    pub fn record(&mut self, opcode: u16, words: &[i32]) -> Result<(), AllocError>
+        requires { length words.now ≤ 4 }
+    {
+        let length = 4 * words.len() as u32;
         self.bytes.extend_from_slice(&opcode.to_le_bytes())?;
         self.bytes.extend_from_slice(&[0, 0])?;
         self.bytes.extend_from_slice(&length.to_le_bytes())?;
