@@ -1,0 +1,8 @@
+use Rattle.coverage.proofs.FillRuleLemmas.{disjoint, exactly_one}
+use Rattle.coverage.proofs.fill_rule.shared_edge.Goals as goal
+
+pub returns-clause-disjoint : goal.returns-clause-disjoint
+returns-clause-disjoint c = disjoint
+
+pub returns-clause-exactly_one : goal.returns-clause-exactly_one
+returns-clause-exactly_one c = exactly_one
