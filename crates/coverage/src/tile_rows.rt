@@ -12,7 +12,8 @@ use gl_records::{Prim, PrimKind, TileRect, VertexOut};
 pub fn rows(p: &Prim, tile: TileRect) -> [u16; 16]
     requires { IsInRange p.now }
     ensures exact { (r i : ℕ) → r < 16 → i < 16
-        → bit_at (slice_index result r) i ≡ (if covers p.now (pos (tile.x0 + i)) (pos (tile.y0 + r)) then 1 else 0) }
+        → bit_at (slice_index result r) i
+        ≡ (if covers p.now (pos (tile.x0 + i)) (pos (tile.y0 + r)) then 1 else 0) }
     // of an edge's two directions exactly one owns the centres on it
     ensures owns { (dx dy : ℤ) → ¬ ((dx ≡ pos 0) × (dy ≡ pos 0))
         → owns_centers dx dy ≡ not (owns_centers (pos 0 -ℤ dx) (pos 0 -ℤ dy)) }
@@ -89,7 +90,10 @@ fn owns(dx: i64, dy: i64) -> bool
 fn triangle_rows(a: EdgeSteps, b: EdgeSteps, c: EdgeSteps) -> [u16; 16]
     ensures { (r i : ℕ) → r < 16 → i < 16
         → bit_at (slice_index result r) i
-        ≡ min (min (row_bit (a.margin +ℤ (pos r *ℤ a.up)) a.right i) (row_bit (b.margin +ℤ (pos r *ℤ b.up)) b.right i))
+        ≡ min
+        (min
+        (row_bit (a.margin +ℤ (pos r *ℤ a.up)) a.right i)
+        (row_bit (b.margin +ℤ (pos r *ℤ b.up)) b.right i))
         (row_bit (c.margin +ℤ (pos r *ℤ c.up)) c.right i) }
 {
     let mut rows = [0; 16];
@@ -102,7 +106,8 @@ fn triangle_rows(a: EdgeSteps, b: EdgeSteps, c: EdgeSteps) -> [u16; 16]
 /// The bits of row `r` of the tile for one edge.
 fn row_at(edge: &EdgeSteps, r: usize) -> u16
     requires { r < 16 }
-    ensures { (k : ℕ) → k < 16 → bit_at result k ≡ row_bit (edge.now.margin +ℤ (pos r *ℤ edge.now.up)) edge.now.right k }
+    ensures { (k : ℕ) → k < 16
+        → bit_at result k ≡ row_bit (edge.now.margin +ℤ (pos r *ℤ edge.now.up)) edge.now.right k }
 {
     edge_row(edge.margin + r as i64 * edge.up, edge.right)
 }
