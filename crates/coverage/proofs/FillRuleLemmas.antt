@@ -34,14 +34,20 @@ opposite e f dx dy u v p q h i j =
 run_back : (a b c d : ℤ) → a ≡ d → b ≡ c → d -ℤ c ≡ pos 0 -ℤ (b -ℤ a)
 run_back a b c d h i = omega (arith, ints)
 
+-- a place is as far to the left of one's edge as it is to the right of the other's
+pub two_sides : (p q : Primitive) (j k : ℕ) (x y : ℤ) → SharesEdge p q j k
+    → edge (edge_start q k) (edge_end q k) x y ≡ pos 0 -ℤ edge (edge_start p j) (edge_end p j) x y
+two_sides p q j k x y h =
+    edge-same (edge_start q k) (edge_end q k) (edge_end p j) (edge_start p j) x y
+    (sym h.end_x) (sym h.end_y) (sym h.start_x) (sym h.start_y)
+    ∙ edge-reverse (edge_start p j) (edge_end p j) x y
+
 pub disjoint : (p q : Primitive) (j k : ℕ) (x y : ℤ) → SharesEdge p q j k → IsTrue (covers p x y) → IsTrue (covers q x y) → ⊥
 disjoint p q j k x y h mine theirs =
     let a = edge_start p j in let b = edge_end p j in let c = edge_start q k in let d = edge_end q k in
     let first = IsInside-from a b x y (inside-of p x y (IsCovered-from p x y mine) j) in
     let second = IsInside-from c d x y (inside-of q x y (IsCovered-from q x y theirs) k) in
-    let back : edge c d (center x) (center y) ≡ pos 0 -ℤ edge a b (center x) (center y) =
-    edge-same c d b a (center x) (center y) (sym h.end_x) (sym h.end_y) (sym h.start_x) (sym h.start_y)
-    ∙ edge-reverse a b (center x) (center y) in
+    let back = two_sides p q j k (center x) (center y) h in
     let along : d.x -ℤ c.x ≡ pos 0 -ℤ (b.x -ℤ a.x) = run_back a.x b.x c.x d.x h.start_x h.end_x in
     let across : d.y -ℤ c.y ≡ pos 0 -ℤ (b.y -ℤ a.y) = run_back a.y b.y c.y d.y h.start_y h.end_y in
     opposite (edge a b (center x) (center y)) (edge c d (center x) (center y)) (b.x -ℤ a.x) (b.y -ℤ a.y) (d.x -ℤ c.x) (d.y -ℤ c.y)
