@@ -1,5 +1,5 @@
 -- An edge function along a row of centres.
-use Rattle.std.specs.Prelude.{ℕ, suc, ℤ, pos, negsuc, ◌+◌, ◌*◌, ◌^◌, ◌%◌, ◌<◌, ◌≤◌, ◌+ℤ◌, ◌-ℤ◌, ◌*ℤ◌, ◌≤ℤ◌, ◌<ℤ◌, ◌≡◌, ◌≢◌, int_le, int_lt, Bool, true, false, ◌&&◌, ◌||◌, if◌then◌else◌, bit_or, unsigned_abs}
+use Rattle.std.specs.Prelude.{ℕ, suc, ℤ, pos, negsuc, ◌+◌, ◌*◌, ◌^◌, ◌%◌, ◌<◌, ◌≤◌, ◌+ℤ◌, ◌-ℤ◌, ◌*ℤ◌, ◌≤ℤ◌, ◌<ℤ◌, ◌≡◌, ◌≢◌, int_le, int_lt, Bool, true, false, ◌&&◌, ◌||◌, if◌then◌else◌, bit_or, unsigned_abs, IsTrue}
 use Rattle.std.specs.Ordering.{int_eq}
 use Rattle.std.specs.Int.{bit_at}
 use Rattle.std.proofs.Common.{arith, FitsSigned, w64, below_more, sym, ◌∙◌}
@@ -119,3 +119,41 @@ inside-stepped a b x y i r =
 
 pub less_one_fits : (e : ℤ) → unsigned_abs e ≤ 2 * 2 ^ 55 → FitsSigned w64 (e -ℤ pos 1)
 less_one_fits e h = omega (arith, ints)
+
+exchanged : (a b c : ℤ) → ((a +ℤ b) +ℤ c) <ℤ pos 0 → ((a +ℤ c) +ℤ b) <ℤ pos 0
+exchanged a b c h = omega (arith, ints)
+
+-- where the four outermost centres of a tile are below 0, all are
+pub none_inside : (value right up : ℤ) (r i : ℕ) → r < 16 → i < 16 → value <ℤ pos 0 → (value +ℤ (pos 15 *ℤ right)) <ℤ pos 0
+    → (value +ℤ (pos 15 *ℤ up)) <ℤ pos 0 → ((value +ℤ (pos 15 *ℤ up)) +ℤ (pos 15 *ℤ right)) <ℤ pos 0
+    → row_bit (value +ℤ (pos r *ℤ up)) right i ≡ 0
+none_inside value right up r i down along p q s t =
+    let left = below_between value up r down p s in
+    let end = below_between (value +ℤ (pos 15 *ℤ right)) up r down q (exchanged value (pos 15 *ℤ up) (pos 15 *ℤ right) t) in
+    row_bit-below (value +ℤ (pos r *ℤ up)) right i
+    (below_between (value +ℤ (pos r *ℤ up)) right i along left (exchanged value (pos 15 *ℤ right) (pos r *ℤ up) end))
+
+-- the values at the outermost centres of a tile, and what they are made of
+pub record TileFits (value right up : ℤ) : Type 0 where
+  pub across : FitsSigned w64 (pos 15 *ℤ right)
+  pub along : FitsSigned w64 (pos 15 *ℤ up)
+  pub low : FitsSigned w64 (value +ℤ (pos 15 *ℤ right))
+  pub high : FitsSigned w64 (value +ℤ (pos 15 *ℤ up))
+  pub last : FitsSigned w64 ((value +ℤ (pos 15 *ℤ up)) +ℤ (pos 15 *ℤ right))
+
+pub TileFits-from : (value right up : ℤ) → unsigned_abs value ≤ 2 ^ 57 → unsigned_abs right ≤ 2 ^ 37 → unsigned_abs up ≤ 2 ^ 37
+    → TileFits value right up
+TileFits-from value right up p q r = record {
+  across = omega (arith, ints);
+  along = omega (arith, ints);
+  low = omega (arith, ints);
+  high = omega (arith, ints);
+  last = omega (arith, ints);
+}
+
+-- four numbers are below 0 where the greatest of them is
+pub all_below : (a b c d m n o : ℤ) → a ≤ℤ m → b ≤ℤ m → m ≤ℤ n → c ≤ℤ n → n ≤ℤ o → d ≤ℤ o → IsTrue (int_lt o (pos 0))
+    → (a <ℤ pos 0) × (b <ℤ pos 0) × (c <ℤ pos 0) × (d <ℤ pos 0)
+all_below a b c d m n o p q r s t u h =
+    let last : o <ℤ pos 0 = omega (arith, ints) in
+    omega (arith, ints)

@@ -1,4 +1,4 @@
-ghost use Rattle.std.specs.Prelude.{◌≡◌, ℕ, ℤ, pos, ◌+◌, ◌+ℤ◌, ◌-ℤ◌, ◌*ℤ◌, ◌<◌, ◌≤◌, ◌^◌, min, not, slice_index, unsigned_abs, if◌then◌else◌};
+ghost use Rattle.std.specs.Prelude.{◌≡◌, ℕ, ℤ, pos, ◌+◌, ◌+ℤ◌, ◌-ℤ◌, ◌*ℤ◌, ◌<◌, ◌≤◌, ◌^◌, min, not, slice_index, unsigned_abs, if◌then◌else◌, IsTrue};
 ghost use Rattle.std.specs.Int.{bit_at};
 ghost use Rattle.coverage.specs.Steps.{margin as margin_of, row_bit};
 ghost use Rattle.gl_records.specs.Coverage.{covers, owns as owns_centers};
@@ -96,9 +96,37 @@ fn triangle_rows(a: EdgeSteps, b: EdgeSteps, c: EdgeSteps) -> [u16; 16]
         (row_bit (b.margin +ℤ (pos r *ℤ b.up)) b.right i))
         (row_bit (c.margin +ℤ (pos r *ℤ c.up)) c.right i) }
 {
+    if is_outside(&a) || is_outside(&b) || is_outside(&c) {
+        [0; 16]
+    } else {
+        stepped_rows(&a, &b, &c)
+    }
+}
+
+/// Whether no centre of the tile is inside of the edge: none of the four outermost ones is.
+fn is_outside(edge: &EdgeSteps) -> bool
+    ensures { IsTrue result → (r i : ℕ) → r < 16 → i < 16
+        → row_bit (edge.now.margin +ℤ (pos r *ℤ edge.now.up)) edge.now.right i ≡ 0 }
+{
+    let (bottom, top) = (edge.margin, edge.margin + 15 * edge.up);
+    let right = 15 * edge.right;
+    let greatest = bottom.max(bottom + right).max(top).max(top + right);
+    greatest < 0
+}
+
+/// The same bits, one row after the other.
+fn stepped_rows(a: &EdgeSteps, b: &EdgeSteps, c: &EdgeSteps) -> [u16; 16]
+    ensures { (r i : ℕ) → r < 16 → i < 16
+        → bit_at (slice_index result r) i
+        ≡ min
+        (min
+        (row_bit (a.now.margin +ℤ (pos r *ℤ a.now.up)) a.now.right i)
+        (row_bit (b.now.margin +ℤ (pos r *ℤ b.now.up)) b.now.right i))
+        (row_bit (c.now.margin +ℤ (pos r *ℤ c.now.up)) c.now.right i) }
+{
     let mut rows = [0; 16];
     for r in 0..16 {
-        rows[r] = row_at(&a, r) & row_at(&b, r) & row_at(&c, r);
+        rows[r] = row_at(a, r) & row_at(b, r) & row_at(c, r);
     }
     rows
 }

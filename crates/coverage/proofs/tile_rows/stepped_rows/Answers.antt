@@ -1,6 +1,6 @@
 use Rattle.std.proofs.Common.{arith, ◌<◌, ◌≢◌, length, below_more, get_or-set_same, get_or-set_other, length-set}
 use Rattle.coverage.proofs.RowLemmas.{and_three}
-use Rattle.coverage.proofs.tile_rows.triangle_rows.Goals as goal
+use Rattle.coverage.proofs.tile_rows.stepped_rows.Goals as goal
 
 pub loop-r-preserved : goal.loop-r-preserved
 loop-r-preserved c = record {
