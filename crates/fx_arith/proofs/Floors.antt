@@ -1,10 +1,10 @@
 -- Floor division: what it is, the order, and other ways to compute it.
-use Rattle.std.proofs.Common.{◌≡◌, ℕ, ◌<◌, ◌*◌, ap, refl, arith}
+use Rattle.std.proofs.Common.{◌≡◌, ℕ, ◌<◌, ap, refl, ◌∙◌, arith}
 use Rattle.std.specs.Prelude.{ℤ, pos, negsuc, ◌+ℤ◌, ◌-ℤ◌, ◌*ℤ◌, ◌≤ℤ◌, ◌<ℤ◌}
 use Rattle.std.specs.Int.{int_div_euclid, int_shr}
 use Rattle.std.proofs.lemmas.Int.{ints}
 use Rattle.std.proofs.Math.IntN.{*ℤ_comm}
-use Rattle.fx_arith.specs.Number.{floor_div}
+use Rattle.fx_arith.specs.Number.{floor_div, floor_quotient}
 use Rattle.fx_arith.proofs.Products.{*ℤ-cancel_<, +ℤ-*ℤ}
 
 -- the quotient's multiple is at most z
@@ -65,3 +65,7 @@ int_div_euclid-pos (negsuc n) d = refl
 pub int_shr-16 : (z : ℤ) → int_shr z 16 ≡ floor_div z 65536
 int_shr-16 (pos n) = refl
 int_shr-16 (negsuc n) = refl
+
+-- a quotient by a whole number that is above 0 is one by a natural number
+pub floor_div-floor_quotient : (y z w : ℤ) (d : ℕ) → y ≡ z → pos d ≡ w → floor_div y d ≡ floor_quotient z w
+floor_div-floor_quotient y z w d same divisor = ap (λ a. floor_div a d) same ∙ ap (floor_quotient z) divisor

@@ -19,7 +19,7 @@ mod fx;
 pub use arithmetic::{add, div, mul, sub};
 pub use color::c8;
 pub use dot::{dot3, dot4};
-pub use floor::{floor_div, floor_div_wide, floor_quotient};
+pub use floor::{floor_div, floor_div_wide, floor_quotient, floor_quotient_wide};
 pub use fx::{Fx, clamp, saturated};
 
 #[cfg(test)]
@@ -61,6 +61,7 @@ mod tests {
             -422550200076076467165567735126
         );
         assert_eq!(rt; floor_quotient(7, -2), -4);
+        assert_eq!(rt; floor_quotient_wide(7, -2), -4);
         assert_eq!(rt; c8(HALF), 128);
     }
 }

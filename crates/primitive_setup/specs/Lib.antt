@@ -1,0 +1,3 @@
+pub use Rattle.gl_records.specs.PixelBox
+pub mod Rules
+pub mod Window

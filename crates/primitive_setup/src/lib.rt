@@ -1,0 +1,9 @@
+//! Set-up: from clipped vertices to primitives in window coordinates.
+//!
+//! ```text
+//! setup(&rules, PrimKind::Triangle, &vertices, Size { w: 320, h: 240 }) // Some(prim), or None where nothing is drawn
+//! ```
+#![tactic(auto)]
+
+mod clamped;
+mod window;
