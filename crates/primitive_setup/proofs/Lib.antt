@@ -1,1 +1,2 @@
+pub mod Clamps
 pub mod Sums
