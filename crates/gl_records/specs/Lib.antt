@@ -1,4 +1,10 @@
 pub mod After
 pub mod Clear
+pub mod Coverage
+pub mod Depth
+pub mod Interpolation
 pub mod PixelBox
 pub mod Surface
+pub mod Tiles
+pub mod Valid
+pub mod Weights

@@ -19,15 +19,15 @@ mod prim;
 mod rec;
 mod setup_rules;
 mod size;
-mod tile_rect;
+mod tile;
 
 pub use clear::ClearItem;
 pub use clip_vertex::ClipVertex;
 pub use item::Item;
 pub use pixel::Pixel;
 pub use pixel_box::PixelBox;
-pub use prim::{Prim, PrimKind, VertexOut};
+pub use prim::{Prim, PrimKind, Primitive, VertexOut};
 pub use rec::Rec;
 pub use setup_rules::SetupRules;
 pub use size::Size;
-pub use tile_rect::TileRect;
+pub use tile::{TileRect, tile_rect};

@@ -29,7 +29,7 @@ pub enum PrimKind {
 /// A primitive after set-up, ready to be rasterised. A point's three corners are equal, a line's third
 /// equals its second, and a triangle's run counterclockwise.
 #[derive(Clone, Copy, Debug, PartialEq, Eq)]
-pub struct Prim {
+pub struct Primitive {
     pub kind: PrimKind,
     pub verts: [VertexOut; 3],
     /// A point's size or a line's width in pixels.
@@ -37,3 +37,7 @@ pub struct Prim {
     /// Holds each pixel of the surface that the primitive covers.
     pub bounds: PixelBox,
 }
+
+/// The primitive's short name, for signatures. The prover has a name `Prim` of its own, so the type itself
+/// cannot have it.
+pub type Prim = Primitive;

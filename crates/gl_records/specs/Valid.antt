@@ -1,0 +1,49 @@
+-- Which primitives set-up hands to the rasteriser (this project's profile).
+use Rattle.std.specs.Prelude.{ℕ, ℤ, pos, negsuc, ◌+ℤ◌, ◌≤ℤ◌, ◌<ℤ◌, ◌^◌, ◌<◌, ◌≤◌, IsTrue}
+use Rattle.gl_records.specs.declared.pixel_box.PixelBox.{PixelBox}
+use Rattle.gl_records.specs.declared.prim.Primitive.{Primitive}
+use Rattle.gl_records.specs.declared.prim.PrimKind.{PrimKind}
+use Rattle.gl_records.specs.declared.prim.PrimKind.TheVariants.{Point, Line, Triangle}
+use Rattle.gl_records.specs.declared.prim.VertexOut.{VertexOut}
+use Rattle.gl_records.specs.declared.size.Size.{Size}
+use Rattle.gl_records.specs.Coverage.{corner, covers}
+use Rattle.gl_records.specs.PixelBox.{holds}
+
+-- a corner's numbers are those that some viewport and some polygon offset give
+pub record IsCornerInRange (v : VertexOut) : Type 0 where
+  pub x_from : negsuc 65535 ≤ℤ v.x  -- -65536
+  pub x_to : v.x ≤ℤ pos 98304
+  pub y_from : negsuc 65535 ≤ℤ v.y
+  pub y_to : v.y ≤ℤ pos 98304
+  pub z_from : negsuc 33554431 ≤ℤ v.z  -- -33554432
+  pub z_to : v.z ≤ℤ pos 50331647
+  pub q_from : 1 ≤ v.q
+  pub q_to : v.q ≤ 2 ^ 31
+
+-- a point is 1 to 64 pixels wide, a line 1 to 16
+abbrev pub IsWidthInRange : PrimKind → ℕ → Type 0
+IsWidthInRange Point width = (1 ≤ width) × (width ≤ 64)
+IsWidthInRange Line width = (1 ≤ width) × (width ≤ 16)
+IsWidthInRange Triangle width = Unit {0}
+
+pub record IsInRange (p : Primitive) : Type 0 where
+  pub first : IsCornerInRange (corner p 0)
+  pub second : IsCornerInRange (corner p 1)
+  pub third : IsCornerInRange (corner p 2)
+  pub width : IsWidthInRange p.kind p.width
+
+-- the box lies in the surface, and it is not empty
+pub record IsBoxOf (size : Size) (area : PixelBox) : Type 0 where
+  pub left : pos 0 ≤ℤ area.x0
+  pub bottom : pos 0 ≤ℤ area.y0
+  pub right : area.x1 ≤ℤ pos size.w
+  pub top : area.y1 ≤ℤ pos size.h
+  pub columns : area.x0 <ℤ area.x1
+  pub rows : area.y0 <ℤ area.y1
+
+-- the primitive can be drawn on a surface of this size. That a triangle runs counterclockwise is no part of
+-- it: one that does not covers no pixel.
+pub record IsValid (p : Primitive) (size : Size) : Type 0 where
+  pub in_range : IsInRange p
+  pub bounds : IsBoxOf size p.bounds
+  pub holds_covered : (x y : ℕ) → x < size.w → y < size.h → IsTrue (covers p (pos x) (pos y)) → IsTrue (holds p.bounds x y)
