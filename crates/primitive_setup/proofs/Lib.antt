@@ -1,2 +1,2 @@
 pub mod Clamps
-pub mod Sums
+pub mod Words

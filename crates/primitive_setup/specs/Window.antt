@@ -1,6 +1,6 @@
 -- Window coordinates (OpenGL ES 1.1.12, 2.11): places in 1/16 pixel, depths of 24 bits; the rounding is this
 -- project's profile.
-use Rattle.std.specs.Prelude.{ℕ, ℤ, pos, ◌+ℤ◌, ◌-ℤ◌, ◌*ℤ◌, ◌^◌, Bool, List, [], ◌∷◌, if◌then◌else◌, slice_index_or, unsigned_abs}
+use Rattle.std.specs.Prelude.{ℕ, ℤ, pos, negsuc, ◌≤ℤ◌, ◌≤◌, ◌+ℤ◌, ◌-ℤ◌, ◌*ℤ◌, ◌^◌, Bool, List, [], ◌∷◌, if◌then◌else◌, slice_index_or, unsigned_abs}
 use Rattle.fx_arith.specs.declared.fx.Fx.{Fx}
 use Rattle.fx_arith.specs.Number.{c8, clamp, component, floor_quotient}
 use Rattle.gl_records.specs.declared.clip_vertex.ClipVertex.{ClipVertex}
@@ -22,6 +22,13 @@ place_of rules v = record {
   x = along_axis (viewport_entry rules 0) (viewport_entry rules 2) (component v.clip 0) (w_of v);
   y = along_axis (viewport_entry rules 1) (viewport_entry rules 3) (component v.clip 1) (w_of v);
 }
+
+-- a place that some viewport has
+pub record IsInViewport (place : Place) : Type 0 where
+  pub x_from : negsuc 65535 ≤ℤ place.x -- -65536
+  pub x_to : place.x ≤ℤ pos 98304
+  pub y_from : negsuc 65535 ≤ℤ place.y
+  pub y_to : place.y ≤ℤ pos 98304
 
 -- the clip coordinates z and w between the depths of the near and the far plane, as a depth of 24 bits
 unfoldable pub depth_of : ℤ → ℤ → ℤ → ℤ → ℤ
@@ -52,3 +59,14 @@ corner_of rules behind v = record {
   tex = raw_coordinates (slice_index_or v.tex 0 []) ∷ raw_coordinates (slice_index_or v.tex 1 []) ∷ [];
   fog = v.fog.0;
 }
+
+-- a corner in the range of window coordinates, before polygon offset
+pub record IsInWindow (v : VertexOut) : Type 0 where
+  pub x_from : negsuc 65535 ≤ℤ v.x -- -65536
+  pub x_to : v.x ≤ℤ pos 98304
+  pub y_from : negsuc 65535 ≤ℤ v.y
+  pub y_to : v.y ≤ℤ pos 98304
+  pub z_from : pos 0 ≤ℤ v.z
+  pub z_to : v.z ≤ℤ pos 16777215
+  pub q_from : 1 ≤ v.q
+  pub q_to : v.q ≤ 2 ^ 31

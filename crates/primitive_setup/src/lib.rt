@@ -6,4 +6,7 @@
 #![tactic(auto)]
 
 mod clamped;
+mod cross;
+mod facing;
+mod offset;
 mod window;

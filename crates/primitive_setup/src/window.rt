@@ -1,7 +1,7 @@
 ghost use Rattle.std.specs.Prelude.{◌≡◌, ◌≤◌, ◌^◌, ◌≤ℤ◌, ◌*ℤ◌, ◌+ℤ◌, ◌-ℤ◌, pos, negsuc, unsigned_abs};
 ghost use Rattle.fx_arith.specs.Number.{floor_quotient as quotient_of};
 ghost use Rattle.primitive_setup.specs.Rules.{AreRulesInRange, w_of};
-ghost use Rattle.primitive_setup.specs.Window.{along_axis as along, place_of, depth_of, reciprocal_of, color_bytes as bytes_of, raw_coordinates as raw_of, corner_of};
+ghost use Rattle.primitive_setup.specs.Window.{along_axis as along, IsInViewport, IsInWindow, place_of, depth_of, reciprocal_of, color_bytes as bytes_of, raw_coordinates as raw_of, corner_of};
 
 use crate::clamped::{clamped, clamped_wide};
 use fx_arith::{Fx, c8, floor_quotient, floor_quotient_wide};
@@ -20,16 +20,38 @@ pub(crate) fn viewport_transform(rules: &SetupRules, vertex: &ClipVertex) -> Pla
     requires rules_in_range { AreRulesInRange rules.now }
     requires in_front { pos 1 ≤ℤ w_of vertex.now }
     ensures value { result ≡ place_of rules.now vertex.now }
-    ensures x_from { negsuc 65535 ≤ℤ result.x }
-    ensures x_to { result.x ≤ℤ pos 98304 }
-    ensures y_from { negsuc 65535 ≤ℤ result.y }
-    ensures y_to { result.y ≤ℤ pos 98304 }
+    ensures in_viewport { IsInViewport result }
 {
     let [x, y, width, height] = rules.viewport;
     let w = vertex.clip[3];
     Place {
         x: along_axis(x, width, vertex.clip[0], w),
         y: along_axis(y, height, vertex.clip[1], w),
+    }
+}
+
+/// A vertex as a corner of a primitive that is seen from in front, or from behind.
+#[tactic(auto, unfolding(crate::specs::Window::corner_of))]
+pub(crate) fn corner(rules: &SetupRules, behind: bool, vertex: &ClipVertex, place: Place) -> VertexOut
+    requires rules_in_range { AreRulesInRange rules.now }
+    requires in_front { pos 1 ≤ℤ w_of vertex.now }
+    requires at_place { place ≡ place_of rules.now vertex.now }
+    requires in_viewport { IsInViewport place }
+    ensures value { result ≡ corner_of rules.now behind vertex.now }
+    ensures in_window { IsInWindow result }
+{
+    let range = rules.range;
+    let clip = vertex.clip;
+    let color = if behind { vertex.back } else { vertex.front };
+    let tex = vertex.tex;
+    VertexOut {
+        x: place.x,
+        y: place.y,
+        z: depth(range[0], range[1], clip[2], clip[3]),
+        q: reciprocal(clip[3]),
+        rgba: color_bytes(&color),
+        tex: [raw_coordinates(&tex[0]), raw_coordinates(&tex[1])],
+        fog: vertex.fog.0,
     }
 }
 

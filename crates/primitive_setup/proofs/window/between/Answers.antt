@@ -3,7 +3,7 @@ use Rattle.std.specs.Prelude.{◌*ℤ◌, ◌+ℤ◌, ◌-ℤ◌}
 use Rattle.std.proofs.lemmas.Int.{ints}
 use mir.Syntax.{w32}
 use mir.Val.{to_z, of_z}
-use Rattle.primitive_setup.proofs.Sums.{sum_fits, sum_is}
+use Rattle.primitive_setup.proofs.Words.{sum_fits, sum_is}
 use Rattle.primitive_setup.proofs.window.between.Goals as goal
 
 pub overflow_add-result : goal.overflow_add-result
