@@ -1,10 +1,12 @@
 -- Arithmetic on numbers of 64 bits that are far from the ends.
-use Rattle.std.proofs.Common.{◌≡◌, ◌≤◌, ◌*◌, ◌^◌, ap, ◌∙◌, lit≤, arith}
-use Rattle.std.specs.Prelude.{ℤ, ◌+ℤ◌, ◌-ℤ◌, ◌*ℤ◌, unsigned_abs}
+use Rattle.std.proofs.Common.{◌≡◌, ◌≤◌, ◌<◌, ◌*◌, ◌^◌, ap, ◌∙◌, lit≤, arith}
+use Rattle.std.specs.Prelude.{ℤ, pos, negsuc, ◌≤ℤ◌, ◌+ℤ◌, ◌-ℤ◌, ◌*ℤ◌, unsigned_abs}
 use Rattle.std.specs.Int.RustNames.{FitsSigned}
 use Rattle.std.proofs.lemmas.Int.{ints}
 use Rattle.fx_arith.proofs.Products.{unsigned_abs-*ℤ-≤}
-use mir.Syntax.{w64}
+use borrow.Author.Differences.{mag_is}
+use lib.Signed.{mag}
+use mir.Syntax.{w32, w64}
 use mir.Val.{to_z, of_z}
 
 -- `a + b` fits
@@ -69,3 +71,12 @@ cross_bound a b c d p q r s = omega (arith, ints, product_bound a d p s, product
 pub cross_same : (r a b c d x y z w : ℤ) → r ≡ a *ℤ d -ℤ c *ℤ b → a ≡ x → b ≡ y → c ≡ z → d ≡ w → r ≡ x *ℤ w -ℤ z *ℤ y
 cross_same r a b c d x y z w is p q s t =
     is ∙ ap (λ n. n *ℤ d -ℤ c *ℤ b) p ∙ ap (λ n. x *ℤ n -ℤ c *ℤ b) t ∙ ap (λ n. x *ℤ w -ℤ n *ℤ b) s ∙ ap (λ n. x *ℤ w -ℤ z *ℤ n) q
+
+-- ---- 32 bits
+-- a place in the window, read from its word
+pub place_is : (a : ℤ) → negsuc 65535 ≤ℤ a → a ≤ℤ pos 98304 → to_z w32 (of_z w32 a) ≡ a
+place_is a from to = omega (arith, ints)
+
+-- any number of 32 bits, read from its word
+pub word_is : (a : ℤ) → mag a < 2 ^ 31 → to_z w32 (of_z w32 a) ≡ a
+word_is a fits = omega (arith, ints, mag_is a)

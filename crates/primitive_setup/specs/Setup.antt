@@ -1,6 +1,6 @@
 -- What set-up makes of a primitive's clipped vertices (OpenGL ES 1.1.12, 2.11, 2.12 and 3.5; OpenGL 1.5,
 -- 2.14.1 for two-sided colours).
-use Rattle.std.specs.Prelude.{ℕ, ℤ, pos, Bool, ◌&&◌, ◌||◌, not, List, [], ◌∷◌, Option, Some, None, int_lt, if◌then◌else◌, unsigned_abs}
+use Rattle.std.specs.Prelude.{ℕ, ℤ, pos, Bool, ◌||◌, List, [], ◌∷◌, Option, Some, None, int_lt, if◌then◌else◌, unsigned_abs}
 use Rattle.std.specs.Ordering.{int_eq}
 use Rattle.fx_arith.specs.declared.fx.Fx.{Fx}
 use Rattle.gl_records.specs.declared.clip_vertex.ClipVertex.{ClipVertex}
@@ -13,7 +13,7 @@ use Rattle.gl_records.specs.declared.setup_rules.SetupRules.{SetupRules}
 use Rattle.gl_records.specs.declared.size.Size.{Size}
 use Rattle.primitive_setup.specs.declared.window.Place.{Place}
 use Rattle.primitive_setup.specs.Bounds.{bounds_of, is_empty}
-use Rattle.primitive_setup.specs.Facing.{doubled_area, faces_front, is_culled}
+use Rattle.primitive_setup.specs.Facing.{doubled_area, faces_front, is_culled, takes_back_colors}
 use Rattle.primitive_setup.specs.Offset.{moved, offset_of}
 use Rattle.primitive_setup.specs.Rules.{vertex}
 use Rattle.primitive_setup.specs.Window.{corner_of, place_of}
@@ -28,20 +28,19 @@ bounded bounds offset a b c =
 unfoldable pub finished : Option (List Fx) → Size → ℕ → VertexOut → VertexOut → VertexOut → Option Primitive
 finished offset size area a b c = bounded (bounds_of size a b c) (offset_of offset area a b c) a b c
 
--- a triangle whose front or back is seen; where its corners run clockwise, the second and the third change
--- places
-unfoldable pub turned : SetupRules → Size → Bool → ℤ → ClipVertex → ClipVertex → ClipVertex → Option Primitive
-turned rules size behind area a b c =
-    if int_lt area (pos 0)
-    then finished rules.offset size (unsigned_abs area) (corner_of rules behind a) (corner_of rules behind c) (corner_of rules behind b)
-    else finished rules.offset size (unsigned_abs area) (corner_of rules behind a) (corner_of rules behind b) (corner_of rules behind c)
+-- a triangle of this doubled area; where its corners run clockwise, the second and the third change places
+unfoldable pub turned : Option (List Fx) → Size → ℤ → VertexOut → VertexOut → VertexOut → Option Primitive
+turned offset size area a b c =
+    if int_lt area (pos 0) then finished offset size (unsigned_abs area) a c b else finished offset size (unsigned_abs area) a b c
 
 -- a triangle of this doubled area; none where it has no area, or the side that is seen is culled
 unfoldable pub faced : SetupRules → Size → ℤ → ClipVertex → ClipVertex → ClipVertex → Option Primitive
 faced rules size area a b c =
-    if int_eq area (pos 0) || is_culled rules.cull (faces_front rules.front_ccw area)
-    then None
-    else turned rules size (rules.two_side && not (faces_front rules.front_ccw area)) area a b c
+    if int_eq area (pos 0) || is_culled rules.cull (faces_front rules.front_ccw area) then None
+    else turned rules.offset size area (corner_of rules behind a) (corner_of rules behind b) (corner_of rules behind c)
+  where
+    behind : Bool
+    behind = takes_back_colors rules.two_side (faces_front rules.front_ccw area)
 
 abbrev pub area_of : Place → Place → Place → ℤ
 area_of a b c = doubled_area a.x a.y b.x b.y c.x c.y

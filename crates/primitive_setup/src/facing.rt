@@ -1,6 +1,6 @@
 ghost use Rattle.std.specs.Prelude.{◌≡◌, ◌≤◌, ◌^◌};
 ghost use Rattle.std.specs.Prelude.{unsigned_abs};
-ghost use Rattle.primitive_setup.specs.Facing.{faces_front as front_is_seen, is_culled as side_is_culled};
+ghost use Rattle.primitive_setup.specs.Facing.{faces_front as front_is_seen, is_culled as side_is_culled, takes_back_colors as back_colors_of};
 ghost use Rattle.primitive_setup.specs.Setup.{area_of};
 ghost use Rattle.primitive_setup.specs.Window.{IsInViewport};
 
@@ -37,4 +37,12 @@ pub(crate) fn is_culled(sides: &Option<[bool; 2]>, front: bool) -> bool
         Some(sides) => if front { sides[0] } else { sides[1] },
         None => false,
     }
+}
+
+/// Whether a triangle takes its corners' back colours.
+#[tactic(auto, unfolding(crate::specs::Facing::takes_back_colors))]
+pub(crate) fn takes_back_colors(two_side: bool, front: bool) -> bool
+    ensures { result ≡ back_colors_of two_side front }
+{
+    two_side && !front
 }

@@ -5,8 +5,13 @@
 //! ```
 #![tactic(auto)]
 
+mod bounds;
 mod clamped;
 mod cross;
 mod facing;
 mod offset;
+mod primitive;
+
 mod window;
+
+pub use primitive::setup;

@@ -38,6 +38,8 @@ pub(crate) fn corner(rules: &SetupRules, behind: bool, vertex: &ClipVertex, plac
     requires at_place { place ≡ place_of rules.now vertex.now }
     requires in_viewport { IsInViewport place }
     ensures value { result ≡ corner_of rules.now behind vertex.now }
+    ensures same_x { result.x ≡ place.x }
+    ensures same_y { result.y ≡ place.y }
     ensures in_window { IsInWindow result }
 {
     let range = rules.range;
