@@ -22,25 +22,25 @@ abbrev pub clamp : ℤ → ℤ → ℤ → ℤ
 clamp low high z = if int_lt z low then low else if int_lt high z then high else z
 
 -- the GLfixed nearest to z: -2^31 to 2^31 - 1
-abbrev pub saturated : ℤ → ℤ
-saturated = clamp (negsuc 2147483647) (pos 2147483647)
+abbrev pub nearest_fixed : ℤ → ℤ
+nearest_fixed = clamp (negsuc 2147483647) (pos 2147483647)
 
 abbrev pub add : ℤ → ℤ → ℤ
-add a b = saturated (a +ℤ b)
+add a b = nearest_fixed (a +ℤ b)
 
 abbrev pub sub : ℤ → ℤ → ℤ
-sub a b = saturated (a -ℤ b)
+sub a b = nearest_fixed (a -ℤ b)
 
 -- a sum of products of two GLfixed, which has 32 fractional bits, as a GLfixed
-abbrev pub narrowed : ℤ → ℤ
-narrowed products = saturated (floor_div products 65536)
+abbrev pub fixed_of_products : ℤ → ℤ
+fixed_of_products products = nearest_fixed (floor_div products 65536)
 
 abbrev pub mul : ℤ → ℤ → ℤ
-mul a b = narrowed (a *ℤ b)
+mul a b = fixed_of_products (a *ℤ b)
 
 -- a over the whole number b
 abbrev pub div : ℤ → ℤ → ℤ
-div a b = saturated (floor_quotient (pos 65536 *ℤ a) b)
+div a b = nearest_fixed (floor_quotient (pos 65536 *ℤ a) b)
 
 -- component k of a vector
 abbrev pub component : List Fx → ℕ → ℤ
@@ -48,10 +48,10 @@ component vector k = (slice_index_or vector k (record { 0 = pos 0 })).0
 
 -- the products of the components are added exactly and rounded once
 abbrev pub dot3 : List Fx → List Fx → ℤ
-dot3 a b = narrowed (component a 0 *ℤ component b 0 +ℤ component a 1 *ℤ component b 1 +ℤ component a 2 *ℤ component b 2)
+dot3 a b = fixed_of_products (component a 0 *ℤ component b 0 +ℤ component a 1 *ℤ component b 1 +ℤ component a 2 *ℤ component b 2)
 
 abbrev pub dot4 : List Fx → List Fx → ℤ
-dot4 a b = narrowed (component a 0 *ℤ component b 0 +ℤ component a 1 *ℤ component b 1 +ℤ component a 2 *ℤ component b 2 +ℤ component a 3 *ℤ component b 3)
+dot4 a b = fixed_of_products (component a 0 *ℤ component b 0 +ℤ component a 1 *ℤ component b 1 +ℤ component a 2 *ℤ component b 2 +ℤ component a 3 *ℤ component b 3)
 
 -- the byte of a colour component: 0 to 1 becomes 0 to 255, rounded to the nearest
 -- (OpenGL ES 1.1.12, 2.12.8)

@@ -2,27 +2,27 @@ ghost use Rattle.std.specs.Prelude.{◌≡◌, ◌≢◌, ◌≤◌, ◌^◌, �
 ghost use Rattle.fx_arith.specs.Number.{add as sum_of, sub as difference_of, mul as product_of, div as quotient_of};
 
 use crate::floor::floor_quotient;
-use crate::fx::{Fx, saturated};
+use crate::fx::{Fx, saturate};
 
 /// `a + b`, saturated.
 pub fn add(a: Fx, b: Fx) -> Fx
     ensures { result.0 ≡ sum_of a.0 b.0 }
 {
-    saturated(i64::from(a.0) + i64::from(b.0))
+    saturate(i64::from(a.0) + i64::from(b.0))
 }
 
 /// `a - b`, saturated.
 pub fn sub(a: Fx, b: Fx) -> Fx
     ensures { result.0 ≡ difference_of a.0 b.0 }
 {
-    saturated(i64::from(a.0) - i64::from(b.0))
+    saturate(i64::from(a.0) - i64::from(b.0))
 }
 
 /// `a * b`, rounded down to a GLfixed and saturated.
 pub fn mul(a: Fx, b: Fx) -> Fx
     ensures { result.0 ≡ product_of a.0 b.0 }
 {
-    saturated(product(a, b) >> 16)
+    saturate(product(a, b) >> 16)
 }
 
 /// `65536 * a / b` on the raw numbers, rounded down and saturated: the quotient of two GLfixed.
@@ -30,7 +30,7 @@ pub fn div(a: Fx, b: i64) -> Fx
     requires { b ≢ pos 0 }
     ensures { result.0 ≡ quotient_of a.0 b }
 {
-    saturated(floor_quotient(product(Fx::ONE, a), b))
+    saturate(floor_quotient(product(Fx::ONE, a), b))
 }
 
 /// The exact product, which has 32 fractional bits.

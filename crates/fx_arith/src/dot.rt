@@ -1,5 +1,5 @@
 ghost use Rattle.std.specs.Prelude.{◌≡◌, ◌≤◌, ◌*◌, ◌^◌, ◌+ℤ◌, unsigned_abs};
-ghost use Rattle.fx_arith.specs.Number.{dot3 as dot3_of, dot4 as dot4_of, narrowed as narrowed_of};
+ghost use Rattle.fx_arith.specs.Number.{dot3 as dot3_of, dot4 as dot4_of, fixed_of_products};
 
 use crate::arithmetic::product;
 use crate::fx::Fx;
@@ -9,7 +9,7 @@ use crate::fx::Fx;
 pub fn dot3(a: [Fx; 3], b: [Fx; 3]) -> Fx
     ensures { result.0 ≡ dot3_of a b }
 {
-    narrowed(sum3(
+    narrow(sum3(
         product(a[0], b[0]),
         product(a[1], b[1]),
         product(a[2], b[2]),
@@ -22,7 +22,7 @@ pub fn dot4(a: [Fx; 4], b: [Fx; 4]) -> Fx
 {
     let (x, y) = (product(a[0], b[0]), product(a[1], b[1]));
     let (z, w) = (product(a[2], b[2]), product(a[3], b[3]));
-    narrowed(sum4(x, y, z, w))
+    narrow(sum4(x, y, z, w))
 }
 
 fn sum3(x: i64, y: i64, z: i64) -> i128
@@ -39,8 +39,8 @@ fn sum4(x: i64, y: i64, z: i64, w: i64) -> i128
 }
 
 /// A sum of products as a GLfixed.
-fn narrowed(products: i128) -> Fx
-    ensures { result.0 ≡ narrowed_of products }
+fn narrow(products: i128) -> Fx
+    ensures { result.0 ≡ fixed_of_products products }
 {
     let raw = products >> 16;
     if raw < -2147483648 {

@@ -20,7 +20,7 @@ pub use arithmetic::{add, div, mul, sub};
 pub use color::c8;
 pub use dot::{dot3, dot4};
 pub use floor::{floor_div, floor_div_wide, floor_quotient, floor_quotient_wide};
-pub use fx::{Fx, clamp, saturated};
+pub use fx::{Fx, clamp, saturate};
 
 #[cfg(test)]
 mod tests {
@@ -50,7 +50,7 @@ mod tests {
             (dot4([HALF; 4], [Fx(-1); 4]), Fx(-2)),
             (dot4([LEAST; 4], [LEAST; 4]), GREATEST),
             (clamp(Fx(-5), Fx::ZERO, Fx::ONE), Fx::ZERO),
-            (saturated(-1 << 40), LEAST),
+            (saturate(-1 << 40), LEAST),
         ];
         for (got, want) in table {
             assert_eq!(rt; got, want);

@@ -74,15 +74,18 @@ pub within-bounds_of : (size : Size) (a b c : VertexOut) (x y : ℕ) → IsTrue 
 unfolding bounds_of
 within-bounds_of size a b c x y h =
     let parts = all_true (int_le (bounds_of size a b c).x0 (pos x)) (int_lt (pos x) (bounds_of size a b c).x1)
-            (int_le (bounds_of size a b c).y0 (pos y)) (int_lt (pos y) (bounds_of size a b c).y1) h in
+    (int_le (bounds_of size a b c).y0 (pos y)) (int_lt (pos y) (bounds_of size a b c).y1) h in
     let column = center_at_most (greatest a.x b.x c.x) size.w x (omega (arith, ints, parts.1)) in
-    let row = center_at_most (greatest a.y b.y c.y) size.h y (omega (arith, ints, parts.3)) in
-    (column.0, row.0, record {
-      left = at_most_center (least a.x b.x c.x) x (omega (arith, ints, parts.0));
-      right = column.1;
-      bottom = at_most_center (least a.y b.y c.y) y (omega (arith, ints, parts.2));
-      top = row.1;
-    })
+    let row = center_at_most (greatest a.y b.y c.y) size.h y (omega (arith, ints, parts.3)) in (
+      column.0,
+      row.0,
+      record {
+        left = at_most_center (least a.x b.x c.x) x (omega (arith, ints, parts.0));
+        right = column.1;
+        bottom = at_most_center (least a.y b.y c.y) y (omega (arith, ints, parts.2));
+        top = row.1;
+      },
+    )
 
 pub holds-exact : (size : Size) (a b c : VertexOut) (area : PixelBox) → area ≡ bounds_of size a b c → (x y : ℕ)
     → IsTrue (holds area x y) ↔ ((x < size.w) × (y < size.h) × IsCenterWithin a b c (pos x) (pos y))

@@ -35,14 +35,30 @@ swap_last a b c = *ℤ_assoc a b c ∙ ap (λ n. a *ℤ n) (*ℤ_comm b c) ∙ s
 mean_x : (u0 v0 u1 v1 u2 v2 : ℤ)
     → (u1 *ℤ v2 -ℤ u2 *ℤ v1) *ℤ u0 +ℤ (u2 *ℤ v0 -ℤ u0 *ℤ v2) *ℤ u1 +ℤ (u0 *ℤ v1 -ℤ u1 *ℤ v0) *ℤ u2 ≡ pos 0
 mean_x u0 v0 u1 v1 u2 v2 =
-    omega (arith, ints, -ℤ-*ℤ (u1 *ℤ v2) (u2 *ℤ v1) u0, -ℤ-*ℤ (u2 *ℤ v0) (u0 *ℤ v2) u1, -ℤ-*ℤ (u0 *ℤ v1) (u1 *ℤ v0) u2,
-    *ℤ_swap u1 v2 u0, *ℤ_swap u2 v1 u0, *ℤ_swap u2 v0 u1)
+    omega (
+      arith,
+      ints,
+      -ℤ-*ℤ (u1 *ℤ v2) (u2 *ℤ v1) u0,
+      -ℤ-*ℤ (u2 *ℤ v0) (u0 *ℤ v2) u1,
+      -ℤ-*ℤ (u0 *ℤ v1) (u1 *ℤ v0) u2,
+      *ℤ_swap u1 v2 u0,
+      *ℤ_swap u2 v1 u0,
+      *ℤ_swap u2 v0 u1,
+    )
 
 mean_y : (u0 v0 u1 v1 u2 v2 : ℤ)
     → (u1 *ℤ v2 -ℤ u2 *ℤ v1) *ℤ v0 +ℤ (u2 *ℤ v0 -ℤ u0 *ℤ v2) *ℤ v1 +ℤ (u0 *ℤ v1 -ℤ u1 *ℤ v0) *ℤ v2 ≡ pos 0
 mean_y u0 v0 u1 v1 u2 v2 =
-    omega (arith, ints, -ℤ-*ℤ (u1 *ℤ v2) (u2 *ℤ v1) v0, -ℤ-*ℤ (u2 *ℤ v0) (u0 *ℤ v2) v1, -ℤ-*ℤ (u0 *ℤ v1) (u1 *ℤ v0) v2,
-    swap_last u1 v2 v0, swap_last u2 v1 v0, swap_last u0 v2 v1)
+    omega (
+      arith,
+      ints,
+      -ℤ-*ℤ (u1 *ℤ v2) (u2 *ℤ v1) v0,
+      -ℤ-*ℤ (u2 *ℤ v0) (u0 *ℤ v2) v1,
+      -ℤ-*ℤ (u0 *ℤ v1) (u1 *ℤ v0) v2,
+      swap_last u1 v2 v0,
+      swap_last u2 v1 v0,
+      swap_last u0 v2 v1,
+    )
 
 -- they sum to the doubled area
 area_is : (u0 v0 u1 v1 u2 v2 : ℤ)
@@ -67,8 +83,9 @@ between : (a b c x : ℤ) → (((a -ℤ x) ≤ℤ negsuc 0) → ((b -ℤ x) ≤�
     → ((pos 1 ≤ℤ (a -ℤ x)) → (pos 1 ≤ℤ (b -ℤ x)) → (pos 1 ≤ℤ (c -ℤ x)) → ⊥)
     → (least a b c ≤ℤ x) × (x ≤ℤ greatest a b c)
 between a b c x below above = (
-    by_lt_z x (least a b c) (λ h. absurd (above (omega (arith, ints, clamps, h)) (omega (arith, ints, clamps, h)) (omega (arith, ints, clamps, h)))) (λ h. h),
-    by_lt_z (greatest a b c) x (λ h. absurd (below (omega (arith, ints, clamps, h)) (omega (arith, ints, clamps, h)) (omega (arith, ints, clamps, h)))) (λ h. h))
+  by_lt_z x (least a b c) (λ h. absurd (above (omega (arith, ints, clamps, h)) (omega (arith, ints, clamps, h)) (omega (arith, ints, clamps, h)))) (λ h. h),
+  by_lt_z (greatest a b c) x (λ h. absurd (below (omega (arith, ints, clamps, h)) (omega (arith, ints, clamps, h)) (omega (arith, ints, clamps, h)))) (λ h. h),
+)
 
 -- the three edge functions and their sum, by the distances of the corners from the place
 pub record AreEdges (ax ay bx by cx cy x y e0 e1 e2 : ℤ) : Type 0 where
@@ -98,10 +115,11 @@ weighted_same e0 e1 e2 w0 w1 w2 n0 n1 n2 p q r =
 means : (ax ay bx by cx cy x y e0 e1 e2 : ℤ) → AreEdges ax ay bx by cx cy x y e0 e1 e2
     → (e0 *ℤ (ax -ℤ x) +ℤ e1 *ℤ (bx -ℤ x) +ℤ e2 *ℤ (cx -ℤ x) ≡ pos 0) × (e0 *ℤ (ay -ℤ y) +ℤ e1 *ℤ (by -ℤ y) +ℤ e2 *ℤ (cy -ℤ y) ≡ pos 0)
 means ax ay bx by cx cy x y e0 e1 e2 edges = (
-    weighted_same e0 e1 e2 _ _ _ (ax -ℤ x) (bx -ℤ x) (cx -ℤ x) edges.first edges.second edges.third
-    ∙ mean_x (ax -ℤ x) (ay -ℤ y) (bx -ℤ x) (by -ℤ y) (cx -ℤ x) (cy -ℤ y),
-    weighted_same e0 e1 e2 _ _ _ (ay -ℤ y) (by -ℤ y) (cy -ℤ y) edges.first edges.second edges.third
-    ∙ mean_y (ax -ℤ x) (ay -ℤ y) (bx -ℤ x) (by -ℤ y) (cx -ℤ x) (cy -ℤ y))
+  weighted_same e0 e1 e2 _ _ _ (ax -ℤ x) (bx -ℤ x) (cx -ℤ x) edges.first edges.second edges.third
+      ∙ mean_x (ax -ℤ x) (ay -ℤ y) (bx -ℤ x) (by -ℤ y) (cx -ℤ x) (cy -ℤ y),
+  weighted_same e0 e1 e2 _ _ _ (ay -ℤ y) (by -ℤ y) (cy -ℤ y) edges.first edges.second edges.third
+      ∙ mean_y (ax -ℤ x) (ay -ℤ y) (bx -ℤ x) (by -ℤ y) (cx -ℤ x) (cy -ℤ y),
+)
 
 pub between_corners : (ax ay bx by cx cy x y e0 e1 e2 : ℤ) → AreEdges ax ay bx by cx cy x y e0 e1 e2
     → pos 0 <ℤ doubled_area ax ay bx by cx cy → pos 0 ≤ℤ e0 → pos 0 ≤ℤ e1 → pos 0 ≤ℤ e2
@@ -109,10 +127,11 @@ pub between_corners : (ax ay bx by cx cy x y e0 e1 e2 : ℤ) → AreEdges ax ay 
 between_corners ax ay bx by cx cy x y e0 e1 e2 edges area p q r =
     let sum = sum_is_area ax ay bx by cx cy x y e0 e1 e2 edges in
     let some : pos 0 <ℤ (e0 +ℤ e1 +ℤ e2) = omega (arith, ints, area, sum) in
-    let mean = means ax ay bx by cx cy x y e0 e1 e2 edges in
-    (between ax bx cx x
-    (not_all_below e0 e1 e2 (ax -ℤ x) (bx -ℤ x) (cx -ℤ x) p q r some mean.0)
-    (not_all_above e0 e1 e2 (ax -ℤ x) (bx -ℤ x) (cx -ℤ x) p q r some mean.0),
-    between ay by cy y
-    (not_all_below e0 e1 e2 (ay -ℤ y) (by -ℤ y) (cy -ℤ y) p q r some mean.1)
-    (not_all_above e0 e1 e2 (ay -ℤ y) (by -ℤ y) (cy -ℤ y) p q r some mean.1))
+    let mean = means ax ay bx by cx cy x y e0 e1 e2 edges in (
+      between ax bx cx x
+          (not_all_below e0 e1 e2 (ax -ℤ x) (bx -ℤ x) (cx -ℤ x) p q r some mean.0)
+          (not_all_above e0 e1 e2 (ax -ℤ x) (bx -ℤ x) (cx -ℤ x) p q r some mean.0),
+      between ay by cy y
+          (not_all_below e0 e1 e2 (ay -ℤ y) (by -ℤ y) (cy -ℤ y) p q r some mean.1)
+          (not_all_above e0 e1 e2 (ay -ℤ y) (by -ℤ y) (cy -ℤ y) p q r some mean.1),
+    )

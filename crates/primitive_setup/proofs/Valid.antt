@@ -15,7 +15,7 @@ use Rattle.gl_records.specs.PixelBox.{holds}
 use Rattle.gl_records.specs.Valid.{IsBoxOf, IsCornerInRange, IsInRange, IsValid}
 use Rattle.primitive_setup.specs.Bounds.{bounds_of, is_empty, IsCenterWithin}
 use Rattle.primitive_setup.specs.Facing.{doubled_area}
-use Rattle.primitive_setup.specs.Offset.{moved}
+use Rattle.primitive_setup.specs.Offset.{with_offset}
 use Rattle.primitive_setup.specs.Window.{IsInWindow}
 use Rattle.primitive_setup.proofs.Boxes.{holds-bounds_of}
 use Rattle.primitive_setup.proofs.Edges.{AreEdges, between_corners, edge_is}
@@ -45,8 +45,8 @@ center_within : (a b c : VertexOut) (x y : ℤ) → pos 0 <ℤ doubled_area a.x 
     → IsCenterWithin a b c x y
 center_within a b c x y area p q r =
     let sides = between_corners a.x a.y b.x b.y c.x c.y (center x) (center y)
-            (edge b c (center x) (center y)) (edge c a (center x) (center y)) (edge a b (center x) (center y))
-            (edges_at a b c (center x) (center y)) area p q r in
+    (edge b c (center x) (center y)) (edge c a (center x) (center y)) (edge a b (center x) (center y))
+    (edges_at a b c (center x) (center y)) area p q r in
     record { left = sides.0.0; right = sides.0.1; bottom = sides.1.0; top = sides.1.1 }
 
 three_true : (a b c : Bool) → IsTrue (a && b && c) → IsTrue a × IsTrue b × IsTrue c
@@ -56,7 +56,7 @@ three_true true false c h = cc
 three_true false b c h = cc
 
 -- ---- the parts of validity
-corner_in_range : (offset : ℤ) (v : VertexOut) → negsuc 33554431 ≤ℤ offset → offset ≤ℤ pos 33554432 → IsInWindow v → IsCornerInRange (moved offset v)
+corner_in_range : (offset : ℤ) (v : VertexOut) → negsuc 33554431 ≤ℤ offset → offset ≤ℤ pos 33554432 → IsInWindow v → IsCornerInRange (with_offset offset v)
 corner_in_range offset v from to h = record {
   x_from = h.x_from;
   x_to = h.x_to;
@@ -87,7 +87,7 @@ box_of size a b c h =
 
 pub triangle_valid : (size : Size) (offset : ℤ) (a b c : VertexOut) → negsuc 33554431 ≤ℤ offset → offset ≤ℤ pos 33554432
     → IsInWindow a → IsInWindow b → IsInWindow c → pos 0 <ℤ doubled_area a.x a.y b.x b.y c.x c.y → is_empty (bounds_of size a b c) ≡ false
-    → IsValid (record { kind = Triangle; verts = moved offset a ∷ moved offset b ∷ moved offset c ∷ []; width = 0; bounds = bounds_of size a b c }) size
+    → IsValid (record { kind = Triangle; verts = with_offset offset a ∷ with_offset offset b ∷ with_offset offset c ∷ []; width = 0; bounds = bounds_of size a b c }) size
 unfolding covers edge
 triangle_valid size offset a b c from to first second third area some = record {
   in_range = record {
@@ -98,16 +98,16 @@ triangle_valid size offset a b c from to first second third area some = record {
   };
   bounds = box_of size a b c some;
   holds_covered = λ x y column row covered.
-    let edges = three_true _ _ _ covered in
-    holds-bounds_of size a b c x y column row
-    (center_within a b c (pos x) (pos y) area
-    (edge_at_least (moved offset b) (moved offset c) (pos x) (pos y) edges.0)
-    (edge_at_least (moved offset c) (moved offset a) (pos x) (pos y) edges.1)
-    (edge_at_least (moved offset a) (moved offset b) (pos x) (pos y) edges.2));
+      let edges = three_true _ _ _ covered in
+      holds-bounds_of size a b c x y column row
+      (center_within a b c (pos x) (pos y) area
+      (edge_at_least (with_offset offset b) (with_offset offset c) (pos x) (pos y) edges.0)
+      (edge_at_least (with_offset offset c) (with_offset offset a) (pos x) (pos y) edges.1)
+      (edge_at_least (with_offset offset a) (with_offset offset b) (pos x) (pos y) edges.2));
 }
 
 -- the same of corners and a box that are equal to those
-pub made_valid : (size : Size) (offset : ℤ) (a b c p q r : VertexOut) (box : PixelBox) → p ≡ moved offset a → q ≡ moved offset b → r ≡ moved offset c
+pub made_valid : (size : Size) (offset : ℤ) (a b c p q r : VertexOut) (box : PixelBox) → p ≡ with_offset offset a → q ≡ with_offset offset b → r ≡ with_offset offset c
     → box ≡ bounds_of size a b c → is_empty box ≡ false → negsuc 33554431 ≤ℤ offset → offset ≤ℤ pos 33554432
     → IsInWindow a → IsInWindow b → IsInWindow c → pos 0 <ℤ doubled_area a.x a.y b.x b.y c.x c.y
     → IsValid (record { kind = Triangle; verts = p ∷ q ∷ r ∷ []; width = 0; bounds = box }) size

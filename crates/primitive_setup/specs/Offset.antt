@@ -28,6 +28,6 @@ offset_of None area a b c = pos 0
 offset_of (Some factor_and_units) area a b c =
     offset_for (component factor_and_units 0) (component factor_and_units 1) (steepest a b c) area
 
--- the corner with its depth moved
-abbrev pub moved : ℤ → VertexOut → VertexOut
-moved offset v = record v { z = v.z +ℤ offset }
+-- the corner with this offset added to its depth
+abbrev pub with_offset : ℤ → VertexOut → VertexOut
+with_offset offset v = record v { z = v.z +ℤ offset }

@@ -1,4 +1,4 @@
--- Window coordinates (OpenGL ES 1.1.12, 2.11): places in 1/16 pixel, depths of 24 bits; the rounding is this
+-- Window coordinates (OpenGL ES 1.1.12, 2.10.1): places in 1/16 pixel, depths of 24 bits; the rounding is this
 -- project's profile.
 use Rattle.std.specs.Prelude.{ℕ, ℤ, pos, negsuc, ◌≤ℤ◌, ◌≤◌, ◌+ℤ◌, ◌-ℤ◌, ◌*ℤ◌, ◌^◌, Bool, List, [], ◌∷◌, if◌then◌else◌, slice_index_or, unsigned_abs}
 use Rattle.fx_arith.specs.declared.fx.Fx.{Fx}
@@ -7,7 +7,8 @@ use Rattle.gl_records.specs.declared.clip_vertex.ClipVertex.{ClipVertex}
 use Rattle.gl_records.specs.declared.prim.VertexOut.{VertexOut}
 use Rattle.gl_records.specs.declared.setup_rules.SetupRules.{SetupRules}
 use Rattle.primitive_setup.specs.declared.window.Place.{Place}
-use Rattle.primitive_setup.specs.Rules.{viewport_entry, w_of}
+use Rattle.gl_records.specs.ClipVertex.{w_of}
+use Rattle.gl_records.specs.SetupRules.{viewport_entry}
 
 -- along one axis: the middle of the viewport, moved by half its side times the clip coordinate over w, and
 -- kept in the viewport
@@ -25,7 +26,7 @@ place_of rules v = record {
 
 -- a place that some viewport has
 pub record IsInViewport (place : Place) : Type 0 where
-  pub x_from : negsuc 65535 ≤ℤ place.x -- -65536
+  pub x_from : negsuc 65535 ≤ℤ place.x  -- -65536
   pub x_to : place.x ≤ℤ pos 98304
   pub y_from : negsuc 65535 ≤ℤ place.y
   pub y_to : place.y ≤ℤ pos 98304
@@ -62,7 +63,7 @@ corner_of rules behind v = record {
 
 -- a corner in the range of window coordinates, before polygon offset
 pub record IsInWindow (v : VertexOut) : Type 0 where
-  pub x_from : negsuc 65535 ≤ℤ v.x -- -65536
+  pub x_from : negsuc 65535 ≤ℤ v.x  -- -65536
   pub x_to : v.x ≤ℤ pos 98304
   pub y_from : negsuc 65535 ≤ℤ v.y
   pub y_to : v.y ≤ℤ pos 98304

@@ -17,7 +17,12 @@ pub(crate) fn doubled_area(a: Place, b: Place, c: Place) -> i64
     ensures value { result ≡ area_of a b c }
     ensures bound { unsigned_abs result ≤ 2 ^ 43 }
 {
-    cross(span(a.x, b.x), span(a.y, b.y), span(a.x, c.x), span(a.y, c.y))
+    cross(
+        span(a.x, b.x),
+        span(a.y, b.y),
+        span(a.x, c.x),
+        span(a.y, c.y),
+    )
 }
 
 /// Whether the front of a triangle of this doubled area is seen.
@@ -25,7 +30,11 @@ pub(crate) fn doubled_area(a: Place, b: Place, c: Place) -> i64
 pub(crate) fn faces_front(front_is_counterclockwise: bool, area: i64) -> bool
     ensures { result ≡ front_is_seen front_is_counterclockwise area }
 {
-    if front_is_counterclockwise { 0 < area } else { area < 0 }
+    if front_is_counterclockwise {
+        0 < area
+    } else {
+        area < 0
+    }
 }
 
 /// Whether culling is on for the side that is seen.

@@ -3,14 +3,20 @@ ghost use Rattle.fx_arith.specs.Number.{floor_div};
 ghost use Rattle.primitive_setup.specs.Offset.{offset_for as offset_by, offset_of, slope_along_x as along_x, slope_along_y as along_y, steepest as steepest_of};
 ghost use Rattle.primitive_setup.specs.Window.{IsInWindow};
 
-use crate::clamped::clamped_wide;
+use crate::clamping::clamp_wide;
 use crate::cross::{cross, span};
 use fx_arith::{Fx, floor_div_wide};
 use gl_records::VertexOut;
 
 /// What polygon offset adds to the depths of a triangle of this doubled area.
 #[tactic(auto, unfolding(crate::specs::Offset::offset_of))]
-pub(crate) fn depth_offset(rule: &Option<[Fx; 2]>, area: u64, a: &VertexOut, b: &VertexOut, c: &VertexOut) -> i32
+pub(crate) fn depth_offset(
+    rule: &Option<[Fx; 2]>,
+    area: u64,
+    a: &VertexOut,
+    b: &VertexOut,
+    c: &VertexOut,
+) -> i32
     requires area_from { 1 ≤ area }
     requires area_to { area ≤ 2 ^ 43 }
     requires first { IsInWindow a.now }
@@ -35,7 +41,9 @@ fn steepest(a: &VertexOut, b: &VertexOut, c: &VertexOut) -> u64
     ensures value { result ≡ steepest_of a.now b.now c.now }
     ensures bound { result ≤ 2 ^ 43 }
 {
-    slope_along_x(a, b, c).unsigned_abs().max(slope_along_y(a, b, c).unsigned_abs())
+    slope_along_x(a, b, c)
+        .unsigned_abs()
+        .max(slope_along_y(a, b, c).unsigned_abs())
 }
 
 fn slope_along_x(a: &VertexOut, b: &VertexOut, c: &VertexOut) -> i64
@@ -45,7 +53,12 @@ fn slope_along_x(a: &VertexOut, b: &VertexOut, c: &VertexOut) -> i64
     ensures value { result ≡ along_x a.now b.now c.now }
     ensures bound { unsigned_abs result ≤ 2 ^ 43 }
 {
-    cross(span(a.z, b.z), span(a.y, b.y), span(a.z, c.z), span(a.y, c.y))
+    cross(
+        span(a.z, b.z),
+        span(a.y, b.y),
+        span(a.z, c.z),
+        span(a.y, c.y),
+    )
 }
 
 fn slope_along_y(a: &VertexOut, b: &VertexOut, c: &VertexOut) -> i64
@@ -55,7 +68,12 @@ fn slope_along_y(a: &VertexOut, b: &VertexOut, c: &VertexOut) -> i64
     ensures value { result ≡ along_y a.now b.now c.now }
     ensures bound { unsigned_abs result ≤ 2 ^ 43 }
 {
-    cross(span(a.z, c.z), span(a.x, c.x), span(a.z, b.z), span(a.x, b.x))
+    cross(
+        span(a.z, c.z),
+        span(a.x, c.x),
+        span(a.z, b.z),
+        span(a.x, b.x),
+    )
 }
 
 /// The slope for each pixel times the factor, and the units.
@@ -68,7 +86,11 @@ fn offset_for(factor: Fx, units: Fx, slope: u64, area: u64) -> i32
     ensures from { negsuc 33554431 ≤ℤ result }
     ensures to { result ≤ℤ pos 33554432 }
 {
-    clamped_wide(slope_part(factor, slope, area) + i128::from(whole(units)), -33554432, 33554432)
+    clamp_wide(
+        slope_part(factor, slope, area) + i128::from(whole(units)),
+        -33554432,
+        33554432,
+    )
 }
 
 /// The whole part, rounded down.

@@ -1,9 +1,10 @@
 ghost use Rattle.std.specs.Prelude.{◌≡◌, ◌≢◌, ◌≤◌, ◌^◌, ◌≤ℤ◌, pos, negsuc, unsigned_abs, IfSome, ◌+ℤ◌};
 ghost use Rattle.gl_records.specs.Valid.{IsValid};
 ghost use Rattle.primitive_setup.specs.Facing.{doubled_area as area_in};
-ghost use Rattle.primitive_setup.specs.Offset.{moved as moved_by};
-ghost use Rattle.primitive_setup.specs.Rules.{AreInFront, AreRulesInRange, vertex};
-ghost use Rattle.primitive_setup.specs.Setup.{area_of, finished as finished_of, setup_of, triangle_of, turned as turned_of};
+ghost use Rattle.primitive_setup.specs.Offset.{with_offset as corner_with_offset};
+ghost use Rattle.gl_records.specs.ClipVertex.{AreInFront, vertex};
+ghost use Rattle.gl_records.specs.SetupRules.{AreRulesInRange};
+ghost use Rattle.primitive_setup.specs.Setup.{area_of, offset_triangle as offset_triangle_of, setup_of, triangle_of, counterclockwise_triangle as counterclockwise_of};
 ghost use Rattle.primitive_setup.specs.Window.{IsInViewport, IsInWindow, place_of};
 
 use crate::bounds::{is_empty, pixel_bounds};
@@ -28,7 +29,7 @@ pub fn setup(rules: &SetupRules, kind: PrimKind, v: &[ClipVertex; 3], size: Size
     }
 }
 
-#[tactic(auto, unfolding(crate::specs::Setup::triangle_of, crate::specs::Setup::faced))]
+#[tactic(auto, unfolding(crate::specs::Setup::triangle_of, crate::specs::Setup::visible_triangle))]
 fn triangle(rules: &SetupRules, size: Size, v: &[ClipVertex; 3]) -> Option<Prim>
     requires rules_in_range { AreRulesInRange rules.now }
     requires in_front { AreInFront v.now }
@@ -47,38 +48,52 @@ fn triangle(rules: &SetupRules, size: Size, v: &[ClipVertex; 3]) -> Option<Prim>
     let a = corner(rules, behind, &v[0], a);
     let b = corner(rules, behind, &v[1], b);
     let c = corner(rules, behind, &v[2], c);
-    turned(&rules.offset, size, area, &a, &b, &c)
+    counterclockwise_triangle(&rules.offset, size, area, &a, &b, &c)
 }
 
 /// The triangle of these corners and of this doubled area.
-#[tactic(auto, unfolding(crate::specs::Setup::turned))]
-fn turned(offset: &Option<[Fx; 2]>, size: Size, area: i64, a: &VertexOut, b: &VertexOut, c: &VertexOut) -> Option<Prim>
+#[tactic(auto, unfolding(crate::specs::Setup::counterclockwise_triangle))]
+fn counterclockwise_triangle(
+    offset: &Option<[Fx; 2]>,
+    size: Size,
+    area: i64,
+    a: &VertexOut,
+    b: &VertexOut,
+    c: &VertexOut,
+) -> Option<Prim>
     requires nonzero { area ≢ pos 0 }
     requires bound { unsigned_abs area ≤ 2 ^ 43 }
     requires of_corners { area ≡ area_in a.now.x a.now.y b.now.x b.now.y c.now.x c.now.y }
     requires first { IsInWindow a.now }
     requires second { IsInWindow b.now }
     requires third { IsInWindow c.now }
-    ensures value { result ≡ turned_of offset.now size area a.now b.now c.now }
+    ensures value { result ≡ counterclockwise_of offset.now size area a.now b.now c.now }
     ensures valid { IfSome result (λ prim. IsValid prim size) }
 {
     if area < 0 {
-        finished(offset, size, area.unsigned_abs(), a, c, b)
+        offset_triangle(offset, size, area.unsigned_abs(), a, c, b)
     } else {
-        finished(offset, size, area.unsigned_abs(), a, b, c)
+        offset_triangle(offset, size, area.unsigned_abs(), a, b, c)
     }
 }
 
 /// The triangle of these corners, which run counterclockwise, and of this doubled area.
-#[tactic(auto, unfolding(crate::specs::Setup::finished))]
-fn finished(offset: &Option<[Fx; 2]>, size: Size, area: u64, a: &VertexOut, b: &VertexOut, c: &VertexOut) -> Option<Prim>
+#[tactic(auto, unfolding(crate::specs::Setup::offset_triangle))]
+fn offset_triangle(
+    offset: &Option<[Fx; 2]>,
+    size: Size,
+    area: u64,
+    a: &VertexOut,
+    b: &VertexOut,
+    c: &VertexOut,
+) -> Option<Prim>
     requires area_from { 1 ≤ area }
     requires area_to { area ≤ 2 ^ 43 }
     requires counterclockwise { area_in a.now.x a.now.y b.now.x b.now.y c.now.x c.now.y ≡ pos area }
     requires first { IsInWindow a.now }
     requires second { IsInWindow b.now }
     requires third { IsInWindow c.now }
-    ensures value { result ≡ finished_of offset.now size area a.now b.now c.now }
+    ensures value { result ≡ offset_triangle_of offset.now size area a.now b.now c.now }
     ensures valid { IfSome result (λ prim. IsValid prim size) }
 {
     let bounds = pixel_bounds(size, a, b, c);
@@ -88,20 +103,24 @@ fn finished(offset: &Option<[Fx; 2]>, size: Size, area: u64, a: &VertexOut, b: &
     let offset = depth_offset(offset, area, a, b, c);
     Some(Prim {
         kind: PrimKind::Triangle,
-        verts: [moved(a, offset), moved(b, offset), moved(c, offset)],
+        verts: [
+            with_offset(a, offset),
+            with_offset(b, offset),
+            with_offset(c, offset),
+        ],
         width: 0,
         bounds,
     })
 }
 
-/// The corner with its depth moved.
-fn moved(v: &VertexOut, offset: i32) -> VertexOut
+/// The corner with this offset added to its depth.
+fn with_offset(v: &VertexOut, offset: i32) -> VertexOut
     requires offset_from { negsuc 33554431 ≤ℤ offset }
     requires offset_to { offset ≤ℤ pos 33554432 }
     requires in_window { IsInWindow v.now }
-    ensures { result ≡ moved_by offset v.now }
+    ensures { result ≡ corner_with_offset offset v.now }
 {
-    let mut moved = *v;
-    moved.z += offset;
-    moved
+    let mut corner = *v;
+    corner.z += offset;
+    corner
 }

@@ -1,9 +1,10 @@
 ghost use Rattle.std.specs.Prelude.{◌≡◌, ◌≤◌, ◌^◌, ◌≤ℤ◌, ◌*ℤ◌, ◌+ℤ◌, ◌-ℤ◌, pos, negsuc, unsigned_abs};
 ghost use Rattle.fx_arith.specs.Number.{floor_quotient as quotient_of};
-ghost use Rattle.primitive_setup.specs.Rules.{AreRulesInRange, w_of};
+ghost use Rattle.gl_records.specs.ClipVertex.{w_of};
+ghost use Rattle.gl_records.specs.SetupRules.{AreRulesInRange};
 ghost use Rattle.primitive_setup.specs.Window.{along_axis as along, IsInViewport, IsInWindow, place_of, depth_of, reciprocal_of, color_bytes as bytes_of, raw_coordinates as raw_of, corner_of};
 
-use crate::clamped::{clamped, clamped_wide};
+use crate::clamping::{clamp_to, clamp_wide};
 use fx_arith::{Fx, c8, floor_quotient, floor_quotient_wide};
 use gl_records::{ClipVertex, SetupRules, VertexOut};
 
@@ -32,7 +33,12 @@ pub(crate) fn viewport_transform(rules: &SetupRules, vertex: &ClipVertex) -> Pla
 
 /// A vertex as a corner of a primitive that is seen from in front, or from behind.
 #[tactic(auto, unfolding(crate::specs::Window::corner_of))]
-pub(crate) fn corner(rules: &SetupRules, behind: bool, vertex: &ClipVertex, place: Place) -> VertexOut
+pub(crate) fn corner(
+    rules: &SetupRules,
+    behind: bool,
+    vertex: &ClipVertex,
+    place: Place,
+) -> VertexOut
     requires rules_in_range { AreRulesInRange rules.now }
     requires in_front { pos 1 ≤ℤ w_of vertex.now }
     requires at_place { place ≡ place_of rules.now vertex.now }
@@ -70,7 +76,11 @@ fn along_axis(start: i32, side: i32, clip: Fx, w: Fx) -> i32
     ensures to { result ≤ℤ pos 98304 }
 {
     let (low, half, high) = (16 * start, 8 * side, 16 * (start + side));
-    clamped(i64::from(low + half) + from_middle(half, clip, w), low, high)
+    clamp_to(
+        i64::from(low + half) + from_middle(half, clip, w),
+        low,
+        high,
+    )
 }
 
 /// How far a clip coordinate is from the viewport's middle, whose half side is in units of 1/16 pixel.
@@ -97,7 +107,11 @@ fn depth(near: Fx, far: Fx, z: Fx, w: Fx) -> i32
     ensures to { result ≤ℤ pos 16777215 }
 {
     let weighted = 16777215 * i128::from(between(near, far, z, w));
-    clamped_wide(floor_quotient_wide(weighted, 131072 * i64::from(w.0)), 0, 16777215)
+    clamp_wide(
+        floor_quotient_wide(weighted, 131072 * i64::from(w.0)),
+        0,
+        16777215,
+    )
 }
 
 /// The depth between the near and the far plane, times 131072 w.

@@ -3,7 +3,7 @@ use Rattle.std.specs.Prelude.{pos}
 use Rattle.std.proofs.lemmas.Int.{ints}
 use mir.Syntax.{w64}
 use mir.Val.{to_z, of_z}
-use Rattle.primitive_setup.specs.Rules.{vertex}
+use Rattle.gl_records.specs.ClipVertex.{vertex}
 use Rattle.primitive_setup.proofs.Made.{int_eq-zero, triangle_is}
 use Rattle.primitive_setup.proofs.primitive.triangle.Goals as goal
 
@@ -13,9 +13,9 @@ returns-clause-value c =
     let read : area ≡ c.doubled_area-area.result = omega (arith, ints, c.doubled_area-area.ensures.bound) in
     triangle_is c.args.rules.now c.args.size (vertex c.args.v.now 0) (vertex c.args.v.now 1) (vertex c.args.v.now 2)
     c.viewport_transform-a.result c.viewport_transform-b.result c.viewport_transform-c.result area
-    c.faces_front-front.result c.takes_back_colors-behind.result c.corner-a.result c.corner-b.result c.corner-c.result c.turned.result
+    c.faces_front-front.result c.takes_back_colors-behind.result c.corner-a.result c.corner-b.result c.corner-c.result c.counterclockwise_triangle.result
     c.viewport_transform-a.ensures.value c.viewport_transform-b.ensures.value c.viewport_transform-c.ensures.value
     (read ∙ c.doubled_area-area.ensures.value)
     (int_eq-zero area (λ zero. c.if-area-eq0.false (omega (arith, ints, c.doubled_area-area.ensures.bound, zero))))
     c.faces_front-front.ensures (sym c.is_culled.ensures ∙ c.if-is_culled.false) c.takes_back_colors-behind.ensures
-    c.corner-a.ensures.value c.corner-b.ensures.value c.corner-c.ensures.value c.turned.ensures.value
+    c.corner-a.ensures.value c.corner-b.ensures.value c.corner-c.ensures.value c.counterclockwise_triangle.ensures.value

@@ -2,7 +2,7 @@ ghost use Rattle.std.specs.Prelude.{◌≡◌, ◌≤ℤ◌};
 ghost use Rattle.fx_arith.specs.Number.{clamp};
 
 /// `z`, or the end of `low..=high` that it lies beyond.
-pub(crate) fn clamped(z: i64, low: i32, high: i32) -> i32
+pub(crate) fn clamp_to(z: i64, low: i32, high: i32) -> i32
     requires { low ≤ℤ high }
     ensures value { result ≡ clamp low high z }
     ensures lower_bound { low ≤ℤ result }
@@ -17,8 +17,8 @@ pub(crate) fn clamped(z: i64, low: i32, high: i32) -> i32
     }
 }
 
-/// [`clamped`] on 128 bits.
-pub(crate) fn clamped_wide(z: i128, low: i32, high: i32) -> i32
+/// [`clamp_to`] on 128 bits.
+pub(crate) fn clamp_wide(z: i128, low: i32, high: i32) -> i32
     requires { low ≤ℤ high }
     ensures value { result ≡ clamp low high z }
     ensures lower_bound { low ≤ℤ result }
