@@ -1,7 +1,6 @@
 -- The bounds hold exactly the pixels of the surface whose centres lie in the box of the corners.
 use Rattle.std.proofs.Common.{◌≡◌, ℕ, ◌<◌, ◌^◌, ap, ◌∙◌, refl, lit<, sym, arith}
-use Rattle.std.specs.Prelude.{ℤ, pos, negsuc, ◌+ℤ◌, ◌*ℤ◌, ◌≤ℤ◌, ◌<ℤ◌, Bool, true, false, ◌&&◌, ◌↔◌, IsTrue, int_le, int_lt}
-use Rattle.std.specs.Int.{int_max, int_min}
+use Rattle.std.specs.Prelude.{ℤ, pos, negsuc, ◌+ℤ◌, ◌≤ℤ◌, ◌<ℤ◌, Bool, true, false, ◌&&◌, ◌↔◌, IsTrue, int_le, int_lt}
 use Rattle.std.proofs.lemmas.Int.{ints, clamps}
 use Rattle.fx_arith.specs.Number.{floor_div}
 use Rattle.fx_arith.proofs.Floors.{floor_div-<, floor_div-multiple_within, floor_div-next_multiple_above, ≤-floor_div}

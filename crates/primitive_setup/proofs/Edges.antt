@@ -1,7 +1,6 @@
 -- A centre that no edge of a triangle has on its right lies in the box of the corners.
 use Rattle.std.proofs.Common.{◌≡◌, refl, ap, sym, ◌∙◌, arith}
 use Rattle.std.specs.Prelude.{ℤ, pos, negsuc, ◌+ℤ◌, ◌-ℤ◌, ◌*ℤ◌, ◌≤ℤ◌, ◌<ℤ◌}
-use Rattle.std.specs.Int.{int_max, int_min}
 use Rattle.std.proofs.lemmas.Int.{ints, clamps, by_lt_z}
 use Rattle.std.proofs.Math.IntN.{*ℤ_comm}
 use Rattle.fx_arith.proofs.Products.{*ℤ--ℤ, -ℤ-*ℤ, *ℤ-opposite, *ℤ_assoc, *ℤ_swap, *ℤ-≤}

@@ -1,18 +1,15 @@
 -- What set-up gives is valid.
-use Rattle.std.proofs.Common.{◌≡◌, ℕ, ◌<◌, ◌≤◌, ap, sym, ◌∙◌, subst, refl, arith}
-use Rattle.std.specs.Prelude.{ℤ, pos, negsuc, ◌+ℤ◌, ◌-ℤ◌, ◌*ℤ◌, ◌≤ℤ◌, ◌<ℤ◌, Bool, true, false, ◌&&◌, ◌||◌, [], ◌∷◌, IsTrue, int_le, int_lt}
+use Rattle.std.proofs.Common.{◌≡◌, ap, sym, ◌∙◌, refl, arith}
+use Rattle.std.specs.Prelude.{ℤ, pos, negsuc, ◌-ℤ◌, ◌≤ℤ◌, ◌<ℤ◌, Bool, true, false, ◌&&◌, ◌||◌, [], ◌∷◌, IsTrue, int_le, int_lt}
 use Rattle.std.specs.Ordering.{int_eq}
-use Rattle.std.specs.Int.{int_max, int_min}
 use Rattle.std.proofs.lemmas.Int.{ints, clamps}
 use Rattle.std.proofs.lemmas.Bool.Decides.{Decides-int_eq}
 use Rattle.gl_records.specs.declared.pixel_box.PixelBox.{PixelBox}
-use Rattle.gl_records.specs.declared.prim.Primitive.{Primitive}
 use Rattle.gl_records.specs.declared.prim.PrimKind.TheVariants.{Triangle}
 use Rattle.gl_records.specs.declared.prim.VertexOut.{VertexOut}
 use Rattle.gl_records.specs.declared.size.Size.{Size}
 use Rattle.gl_records.specs.Coverage.{center, covers, edge, inside_edge, owns}
-use Rattle.gl_records.specs.PixelBox.{holds}
-use Rattle.gl_records.specs.Valid.{IsBoxOf, IsCornerInRange, IsInRange, IsValid}
+use Rattle.gl_records.specs.Valid.{IsBoxOf, IsCornerInRange, IsValid}
 use Rattle.primitive_setup.specs.Bounds.{bounds_of, is_empty, IsCenterWithin}
 use Rattle.primitive_setup.specs.Facing.{doubled_area}
 use Rattle.primitive_setup.specs.Offset.{with_offset}

@@ -1,5 +1,3 @@
-use Rattle.std.proofs.Common.{arith}
-use Rattle.std.specs.Prelude.{unsigned_abs}
 use Rattle.primitive_setup.proofs.Words.{cross_bound, cross_fits, cross_is, product_fits}
 use Rattle.primitive_setup.proofs.cross.cross.Goals as goal
 

@@ -1,5 +1,4 @@
-use Rattle.std.proofs.Common.{◌≡◌, ◌∙◌, arith}
-use Rattle.std.specs.Prelude.{pos, ◌-ℤ◌}
+use Rattle.std.proofs.Common.{arith}
 use Rattle.std.proofs.lemmas.Int.{ints}
 use Rattle.primitive_setup.specs.Facing.{doubled_area}
 use Rattle.primitive_setup.proofs.primitive.counterclockwise_triangle.Goals as goal

@@ -1,10 +1,9 @@
 use Rattle.std.proofs.Common.{◌≡◌, ◌∙◌, sym, arith}
-use Rattle.std.specs.Prelude.{pos, negsuc, false, ◌≤ℤ◌, ◌<ℤ◌}
+use Rattle.std.specs.Prelude.{pos, negsuc, false, ◌≤ℤ◌}
 use Rattle.std.proofs.lemmas.Int.{ints}
 use mir.Syntax.{w32}
 use mir.Val.{to_z, of_z}
 use Rattle.primitive_setup.specs.Bounds.{is_empty}
-use Rattle.primitive_setup.specs.Offset.{offset_of}
 use Rattle.primitive_setup.proofs.Made.{offset_triangle_is}
 use Rattle.primitive_setup.proofs.Valid.{made_valid}
 use Rattle.primitive_setup.proofs.Words.{word_is}

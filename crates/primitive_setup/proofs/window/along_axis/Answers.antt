@@ -1,7 +1,7 @@
 use Rattle.std.proofs.Common.{◌≡◌, ap, ◌∙◌, arith}
 use Rattle.std.specs.Prelude.{pos, ◌*ℤ◌, ◌+ℤ◌}
 use Rattle.std.proofs.lemmas.Int.{ints}
-use Rattle.fx_arith.specs.Number.{clamp, floor_quotient}
+use Rattle.fx_arith.specs.Number.{floor_quotient}
 use mir.Syntax.{w64, w32}
 use mir.Val.{to_z, of_z}
 use Rattle.primitive_setup.specs.Window.{along_axis}

@@ -1,5 +1,5 @@
 use Rattle.std.proofs.Common.{◌≡◌, ap, ◌∙◌, arith}
-use Rattle.std.specs.Prelude.{pos, ◌*ℤ◌, ◌+ℤ◌, ◌-ℤ◌}
+use Rattle.std.specs.Prelude.{pos, ◌*ℤ◌}
 use Rattle.std.proofs.lemmas.Int.{ints}
 use Rattle.fx_arith.specs.Number.{clamp, floor_quotient}
 use mir.Syntax.{w64, w32, w128}
