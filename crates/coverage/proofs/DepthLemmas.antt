@@ -1,6 +1,6 @@
 -- The depth at a pixel.
 use Rattle.std.specs.Prelude.{ℕ, ℤ, pos, ◌+ℤ◌, ◌*ℤ◌, ◌≡◌, unsigned_abs}
-use Rattle.std.proofs.Common.{refl, arith, FitsSigned, w32}
+use Rattle.std.proofs.Common.{arith, FitsSigned, w32}
 use Rattle.std.proofs.lemmas.Int.{ints}
 use Rattle.fx_arith.specs.Number.{clamp, floor_div}
 use Rattle.gl_records.specs.declared.prim.Primitive.{Primitive}

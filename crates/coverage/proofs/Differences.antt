@@ -3,7 +3,7 @@
 use Rattle.std.specs.Prelude.{ℕ, ℤ, pos, ◌+◌, ◌*◌, ◌+ℤ◌, ◌-ℤ◌, ◌*ℤ◌, ◌≡◌}
 use Rattle.std.proofs.Common.{ap, arith}
 use Rattle.std.proofs.lemmas.Int.{ints}
-use borrow.Author.Differences.{up, down, sum_is_lem, neg_is, product_is, same_in}
+use borrow.Author.Differences.{up, down, sum_is_lem, product_is, same_in}
 
 -- z is m less n
 pub record IsDifference (z : ℤ) (m n : ℕ) : Type 0 where

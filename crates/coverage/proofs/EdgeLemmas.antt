@@ -1,6 +1,6 @@
 -- The edge function: what its value is made of, and how values of it belong together.
 use Rattle.std.specs.Prelude.{ℕ, ℤ, pos, ◌+◌, ◌*◌, ◌+ℤ◌, ◌-ℤ◌, ◌*ℤ◌, ◌≡◌}
-use Rattle.std.proofs.Common.{refl, arith}
+use Rattle.std.proofs.Common.{arith}
 use Rattle.std.proofs.lemmas.Int.{ints}
 use Rattle.gl_records.specs.declared.prim.VertexOut.{VertexOut}
 use Rattle.gl_records.specs.Coverage.{center, edge}
@@ -56,3 +56,16 @@ edge-step a b x y i r =
     (times (number r) (times (number 16) (minus bx ax))))
     (times (number i) (times (number 16) (minus ay by))))
     (omega arith)
+
+-- the value goes by the places of the corners alone
+pub edge-same : (a b c d : VertexOut) (x y : ℤ) → a.x ≡ c.x → a.y ≡ c.y → b.x ≡ d.x → b.y ≡ d.y → edge a b x y ≡ edge c d x y
+unfolding edge
+edge-same a b c d x y e1 e2 e3 e4 = rw (e1, e2, e3, e4)
+
+nothing : (a b : ℤ) → (pos 0 *ℤ a) -ℤ (pos 0 *ℤ b) ≡ pos 0
+nothing a b = omega (arith, ints)
+
+-- an edge of no length has the value 0
+pub edge-flat : (a b : VertexOut) (x y : ℤ) → b.x -ℤ a.x ≡ pos 0 → b.y -ℤ a.y ≡ pos 0 → edge a b x y ≡ pos 0
+unfolding edge
+edge-flat a b x y e1 e2 = rw (e1, e2) (nothing (y -ℤ a.y) (x -ℤ a.x))

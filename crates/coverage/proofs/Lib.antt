@@ -2,5 +2,8 @@ pub mod CoverLemmas
 pub mod DepthLemmas
 pub mod Differences
 pub mod EdgeLemmas
+pub mod FillRuleLemmas
+pub mod RowLemmas
+pub mod StepLemmas
 pub mod WeightLemmas
 pub mod Whole

@@ -1,6 +1,6 @@
 -- The weights of a triangle's corners at a pixel.
-use Rattle.std.specs.Prelude.{ℕ, ℤ, pos, negsuc, ◌+◌, ◌*◌, ◌+ℤ◌, ◌-ℤ◌, ◌*ℤ◌, ◌≤ℤ◌, ◌≡◌, ◌^◌, ◌≤◌, ◌⊎◌, [], ◌∷◌, IsTrue, unsigned_abs}
-use Rattle.std.proofs.Common.{refl, arith, inl, inr, FitsSigned, w64}
+use Rattle.std.specs.Prelude.{ℕ, ℤ, pos, negsuc, ◌*◌, ◌+ℤ◌, ◌-ℤ◌, ◌*ℤ◌, ◌≤ℤ◌, ◌≡◌, ◌^◌, ◌≤◌, ◌⊎◌, [], ◌∷◌, IsTrue, unsigned_abs}
+use Rattle.std.proofs.Common.{arith, inl, inr, FitsSigned, w64}
 use Rattle.std.proofs.lemmas.Int.{ints}
 use Rattle.gl_records.specs.declared.prim.Primitive.{Primitive}
 use Rattle.gl_records.specs.declared.prim.PrimKind.TheVariants.{Point, Line, Triangle}
@@ -8,7 +8,7 @@ use Rattle.gl_records.specs.declared.prim.VertexOut.{VertexOut}
 use Rattle.gl_records.specs.Coverage.{center, corner, covers, edge, edge_start, edge_end}
 use Rattle.gl_records.specs.Valid.{IsCornerInRange, IsInRange}
 use Rattle.gl_records.specs.Weights.{AreWeights, only_first, weight, weights}
-use Rattle.coverage.proofs.CoverLemmas.{IsCovered, IsCovered-from, IsInside, IsInside-from, sum_positive}
+use Rattle.coverage.proofs.CoverLemmas.{IsCovered-from, IsInside, IsInside-from, sum_positive}
 use Rattle.coverage.proofs.EdgeLemmas.{edge-sum}
 use Rattle.coverage.proofs.Whole.{unsigned_abs-product}
 

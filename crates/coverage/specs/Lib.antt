@@ -1,0 +1,2 @@
+pub mod FillRule
+pub mod Steps

@@ -8,12 +8,15 @@ ghost use Rattle.gl_records.specs.Weights.{AreWeights, weight, weights as weight
 use crate::edges::edge;
 use gl_records::{Prim, PrimKind};
 
-/// How much each corner counts at the centre of pixel (x, y): at a triangle the edge function of the edge
-/// across from the corner (OpenGL 1.5, 3.5.1), at a point 1 for the first corner alone.
+/// How much each corner counts at the centre of pixel (x, y). At a triangle it is the edge function of the edge
+/// across from the corner, which is twice the area between this edge and the centre, in units of 1/256 pixel
+/// (OpenGL 1.5, 3.5.1). At a point the first corner alone counts, by 1. Where the primitive covers the pixel,
+/// none is below 0 and their sum lies within 1 and 2^36.
 pub fn weights(p: &Prim, x: i32, y: i32) -> [i64; 3]
     requires { IsInRange p.now }
     ensures value { result ≡ weights_of p.now x y }
-    ensures where_covered { IsTrue (covers p.now x y) → AreWeights (weight p.now 0 x y) (weight p.now 1 x y) (weight p.now 2 x y) }
+    ensures where_covered { IsTrue (covers p.now x y)
+        → AreWeights (weight p.now 0 x y) (weight p.now 1 x y) (weight p.now 2 x y) }
 {
     let [a, b, c] = &p.verts;
     match p.kind {
@@ -67,7 +70,8 @@ fn share(weight: i64, z: i32) -> i64
 /// The floor of the quotient, clamped to the depths that there are.
 fn clamped_quotient(sum: i64, total: i64) -> u32
     requires { pos 0 <ℤ total }
-    ensures value { result ≡ unsigned_abs (clamp (pos 0) greatest_depth (floor_div sum (unsigned_abs total))) }
+    ensures value { result
+        ≡ unsigned_abs (clamp (pos 0) greatest_depth (floor_div sum (unsigned_abs total))) }
     ensures to_greatest { result ≤ 16777215 }
 {
     if sum < 0 {

@@ -17,7 +17,7 @@ pub fn edge(a: &VertexOut, b: &VertexOut, x: i32, y: i32) -> i64
 }
 
 /// How far `b` lies beyond `a`.
-fn run(a: i32, b: i32) -> i64
+pub fn run(a: i32, b: i32) -> i64
     ensures { result ≡ b -ℤ a }
 {
     i64::from(b) - i64::from(a)

@@ -1,5 +1,5 @@
 -- Which primitives set-up hands to the rasteriser (this project's profile).
-use Rattle.std.specs.Prelude.{ℕ, ℤ, pos, negsuc, ◌+ℤ◌, ◌≤ℤ◌, ◌<ℤ◌, ◌^◌, ◌<◌, ◌≤◌, IsTrue}
+use Rattle.std.specs.Prelude.{ℕ, pos, negsuc, ◌≤ℤ◌, ◌<ℤ◌, ◌^◌, ◌<◌, ◌≤◌, IsTrue}
 use Rattle.gl_records.specs.declared.pixel_box.PixelBox.{PixelBox}
 use Rattle.gl_records.specs.declared.prim.Primitive.{Primitive}
 use Rattle.gl_records.specs.declared.prim.PrimKind.{PrimKind}

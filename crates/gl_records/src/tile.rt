@@ -22,3 +22,18 @@ pub fn tile_rect(size: Size, tile: u32) -> TileRect
     let y0 = (16 * (tile / across)) as u16;
     TileRect { x0, y0 }
 }
+
+#[cfg(test)]
+mod tests {
+    use super::*;
+
+    #[test]
+    fn tiles_go_by_rows_from_the_lower_left(rt: HostRuntime) {
+        // two tiles in a row, three rows of tiles
+        let size = Size { w: 17, h: 33 };
+        assert_eq!(rt; tile_rect(size, 0), TileRect { x0: 0, y0: 0 });
+        assert_eq!(rt; tile_rect(size, 1), TileRect { x0: 16, y0: 0 });
+        assert_eq!(rt; tile_rect(size, 2), TileRect { x0: 0, y0: 16 });
+        assert_eq!(rt; tile_rect(size, 5), TileRect { x0: 16, y0: 32 });
+    }
+}

@@ -1,4 +1,4 @@
-use Rattle.std.proofs.Common.{rules, FitsSigned, w32, w64, ◌+ℤ◌}
+use Rattle.std.proofs.Common.{rules, FitsSigned, w32, w64}
 use Rattle.std.proofs.lemmas.Int.{to_z-of_z}
 use Rattle.gl_records.specs.Coverage.{corner}
 use Rattle.gl_records.specs.Weights.{weight}

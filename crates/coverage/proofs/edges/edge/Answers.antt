@@ -1,4 +1,4 @@
-use Rattle.std.proofs.Common.{arith, rules, FitsSigned, w64, w32, ◌≡◌, ◌*ℤ◌, ◌-ℤ◌, ◌≤◌, ◌^◌, unsigned_abs}
+use Rattle.std.proofs.Common.{arith, rules, FitsSigned, w64, w32, ◌≡◌, ◌-ℤ◌, ◌^◌}
 use Rattle.std.proofs.lemmas.Int.{ints, to_z-of_z}
 use Rattle.gl_records.specs.Coverage.{center}
 use Rattle.coverage.proofs.EdgeLemmas.{edge_from}

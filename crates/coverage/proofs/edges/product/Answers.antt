@@ -1,4 +1,4 @@
-use Rattle.std.proofs.Common.{◌≤◌, ◌^◌, unsigned_abs, ◌*◌, w64, ◌*ℤ◌, FitsSigned, arith, lit<, refl}
+use Rattle.std.proofs.Common.{◌^◌, w64, ◌*ℤ◌, FitsSigned, lit<}
 use Rattle.std.proofs.lemmas.Int.{to_z-of_z, fits_signed_mul}
 use Rattle.coverage.proofs.Whole.{unsigned_abs-product}
 use Rattle.coverage.proofs.edges.product.Goals as goal

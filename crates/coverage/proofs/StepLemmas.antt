@@ -1,0 +1,121 @@
+-- An edge function along a row of centres.
+use Rattle.std.specs.Prelude.{ℕ, suc, ℤ, pos, negsuc, ◌+◌, ◌*◌, ◌^◌, ◌%◌, ◌<◌, ◌≤◌, ◌+ℤ◌, ◌-ℤ◌, ◌*ℤ◌, ◌≤ℤ◌, ◌<ℤ◌, ◌≡◌, ◌≢◌, int_le, int_lt, Bool, true, false, ◌&&◌, ◌||◌, if◌then◌else◌, bit_or, unsigned_abs}
+use Rattle.std.specs.Ordering.{int_eq}
+use Rattle.std.specs.Int.{bit_at}
+use Rattle.std.proofs.Common.{arith, FitsSigned, w64, below_more, sym, ◌∙◌}
+use Rattle.std.proofs.lemmas.Int.{ints}
+use Rattle.std.proofs.Math.Nat.{mul-le-mul_right}
+use Rattle.std.proofs.lemmas.Nat.Bits.{bit_at_ones, bit_at-zero, bit_at_set_same, bit_at_set_other}
+use mir.Val.{bits as bits_of}
+use mir.Syntax.{w16}
+use Rattle.coverage.proofs.Whole.{unsigned_abs-product}
+use Rattle.coverage.specs.Steps.{margin, row_bit}
+use Rattle.coverage.proofs.EdgeLemmas.{edge-step}
+use Rattle.gl_records.specs.declared.prim.VertexOut.{VertexOut}
+use Rattle.gl_records.specs.Coverage.{center, edge, owns, inside_edge}
+
+-- between two values of a row that are not below 0 there is none below 0
+above_between : (value step : ℤ) (k : ℕ) → k < 16 → pos 0 ≤ℤ value → pos 0 ≤ℤ (value +ℤ (pos 15 *ℤ step))
+    → pos 0 ≤ℤ (value +ℤ (pos k *ℤ step))
+above_between value (pos n) k p q r = omega (arith, ints)
+above_between value (negsuc n) k p q r =
+    let less : k ≤ 15 = omega arith in
+    let most = mul-le-mul_right (suc n) less in
+    omega (arith, ints)
+
+-- and between two that are below 0 all are
+below_between : (value step : ℤ) (k : ℕ) → k < 16 → value <ℤ pos 0 → (value +ℤ (pos 15 *ℤ step)) <ℤ pos 0
+    → (value +ℤ (pos k *ℤ step)) <ℤ pos 0
+below_between value (pos n) k p q r =
+    let less : k ≤ 15 = omega arith in
+    let most = mul-le-mul_right n less in
+    omega (arith, ints)
+below_between value (negsuc n) k p q r = omega (arith, ints)
+
+pub row_bit-above : (value step : ℤ) (k : ℕ) → pos 0 ≤ℤ (value +ℤ (pos k *ℤ step)) → row_bit value step k ≡ 1
+row_bit-above value step k h = grind (arith, ints)
+
+pub row_bit-below : (value step : ℤ) (k : ℕ) → (value +ℤ (pos k *ℤ step)) <ℤ pos 0 → row_bit value step k ≡ 0
+row_bit-below value step k h = grind (arith, ints)
+
+pub all_set : (value step : ℤ) → pos 0 ≤ℤ value → pos 0 ≤ℤ (value +ℤ (pos 15 *ℤ step))
+    → (k : ℕ) → k < 16 → bit_at 65535 k ≡ row_bit value step k
+all_set value step p q k h =
+    rw (row_bit-above value step k (above_between value step k h p q)) (bit_at_ones 16 k h)
+
+pub none_set : (value step : ℤ) → value <ℤ pos 0 → (value +ℤ (pos 15 *ℤ step)) <ℤ pos 0
+    → (k : ℕ) → k < 16 → bit_at 0 k ≡ row_bit value step k
+none_set value step p q k h =
+    rw (row_bit-below value step k (below_between value step k h p q)) (bit_at-zero k)
+
+-- one step more
+pub stepped : (value step at : ℤ) (k : ℕ) → at ≡ value +ℤ (pos k *ℤ step) → at +ℤ step ≡ value +ℤ (pos (k + 1) *ℤ step)
+stepped value step at k h = omega (arith, ints)
+
+-- how far k steps lead
+pub stepped_small : (value step : ℤ) (k : ℕ) → k ≤ 16 → unsigned_abs value ≤ 2 ^ 58 → unsigned_abs step ≤ 2 ^ 58
+    → FitsSigned w64 (value +ℤ (pos k *ℤ step))
+stepped_small value step k p q r =
+    let small = unsigned_abs-product (pos k) step 16 (2 ^ 58) p r in
+    omega (arith, ints)
+
+-- what the bits of the centres before k + 1 are, where the value at centre k is not below 0
+pub set_done : (value step : ℤ) (k bits : ℕ) → k < 16 → pos 0 ≤ℤ (value +ℤ (pos k *ℤ step))
+    → ((j : ℕ) → j < k → bit_at bits j ≡ row_bit value step j)
+    → (j : ℕ) → j < k + 1 → bit_at (bit_or bits (1 * 2 ^ k % 2 ^ bits_of w16)) j ≡ row_bit value step j
+set_done value step k bits within h done =
+    below_more _ _
+    (λ j less. let other : j ≢ k = omega arith in bit_at_set_other w16 bits k within j other ∙ done j less)
+    (bit_at_set_same w16 bits k within ∙ sym (row_bit-above value step k h))
+
+-- and where it is below 0
+pub keep_done : (value step : ℤ) (k bits : ℕ) → (value +ℤ (pos k *ℤ step)) <ℤ pos 0
+    → ((j : ℕ) → j < k → bit_at bits j ≡ row_bit value step j) → ((j : ℕ) → k ≤ j → bit_at bits j ≡ 0)
+    → (j : ℕ) → j < k + 1 → bit_at bits j ≡ row_bit value step j
+keep_done value step k bits h done blank =
+    let least : k ≤ k = omega arith in
+    below_more _ _ done (blank k least ∙ sym (row_bit-below value step k h))
+
+-- the bits from k + 1 on stay blank
+pub set_blank : (k bits : ℕ) → k < 16 → ((j : ℕ) → k ≤ j → bit_at bits j ≡ 0)
+    → (j : ℕ) → k + 1 ≤ j → bit_at (bit_or bits (1 * 2 ^ k % 2 ^ bits_of w16)) j ≡ 0
+set_blank k bits within blank j h =
+    let other : j ≢ k = omega arith in
+    let least : k ≤ j = omega arith in
+    bit_at_set_other w16 bits k within j other ∙ blank j least
+
+whole : (e : ℤ) → e ≡ e -ℤ pos 0
+whole e = omega (arith, ints)
+
+pub margin-owned : (a b : VertexOut) (x y e : ℤ) → owns (b.x -ℤ a.x) (b.y -ℤ a.y) ≡ true
+    → e ≡ edge a b (center x) (center y) → e ≡ margin a b x y
+unfolding margin
+margin-owned a b x y e own is = rw (own, is) (whole (edge a b (center x) (center y)))
+
+pub margin-open : (a b : VertexOut) (x y e : ℤ) → owns (b.x -ℤ a.x) (b.y -ℤ a.y) ≡ false
+    → e ≡ edge a b (center x) (center y) → e -ℤ pos 1 ≡ margin a b x y
+unfolding margin
+margin-open a b x y e own is = rw (own, is)
+
+-- the edge function with its ownership is the margin's sign
+pub within_by_sign : (e : ℤ) (own : Bool)
+    → int_le (pos 0) (e -ℤ (if own then pos 0 else pos 1)) ≡ (int_lt (pos 0) e || (int_eq e (pos 0) && own))
+within_by_sign e true = grind (arith, ints)
+within_by_sign e false = grind (arith, ints)
+
+shifted : (e t u s : ℤ) → ((e -ℤ t) +ℤ u) +ℤ s ≡ ((e +ℤ u) +ℤ s) -ℤ t
+shifted e t u s = omega (arith, ints)
+
+-- a centre of the tile is inside of an edge exactly where the stepped margin is not below 0
+pub inside-stepped : (a b : VertexOut) (x y i r : ℕ)
+    → int_le (pos 0) ((margin a b (pos x) (pos y) +ℤ (pos r *ℤ (pos 16 *ℤ (b.x -ℤ a.x)))) +ℤ (pos i *ℤ (pos 16 *ℤ (a.y -ℤ b.y))))
+    ≡ inside_edge a b (pos (x + i)) (pos (y + r))
+unfolding margin
+inside-stepped a b x y i r =
+    let t = if owns (b.x -ℤ a.x) (b.y -ℤ a.y) then pos 0 else pos 1 in
+    let moved = shifted (edge a b (center (pos x)) (center (pos y))) t (pos r *ℤ (pos 16 *ℤ (b.x -ℤ a.x))) (pos i *ℤ (pos 16 *ℤ (a.y -ℤ b.y))) in
+    rw (moved, ← edge-step a b x y i r)
+    (within_by_sign (edge a b (center (pos (x + i))) (center (pos (y + r)))) (owns (b.x -ℤ a.x) (b.y -ℤ a.y)))
+
+pub less_one_fits : (e : ℤ) → unsigned_abs e ≤ 2 * 2 ^ 55 → FitsSigned w64 (e -ℤ pos 1)
+less_one_fits e h = omega (arith, ints)

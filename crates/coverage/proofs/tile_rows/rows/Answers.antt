@@ -1,0 +1,18 @@
+use Rattle.gl_records.specs.Coverage.{corner}
+use Rattle.coverage.proofs.RowLemmas.{IsStepsOf, exact_bit, none_bit}
+use Rattle.coverage.proofs.tile_rows.rows.Goals as goal
+
+pub returns-in-Triangle-clause-exact : goal.returns-in-Triangle-clause-exact
+returns-in-Triangle-clause-exact c r i down along =
+    let first : IsStepsOf c.steps.result (corner c.args.p.now 1) (corner c.args.p.now 2) c.args.tile.x0 c.args.tile.y0 =
+    record { margin_is = c.steps.ensures.margin; right_is = c.steps.ensures.right; up_is = c.steps.ensures.up } in
+    let second : IsStepsOf c.steps-in-Triangle.result (corner c.args.p.now 2) (corner c.args.p.now 0) c.args.tile.x0 c.args.tile.y0 =
+    record { margin_is = c.steps-in-Triangle.ensures.margin; right_is = c.steps-in-Triangle.ensures.right; up_is = c.steps-in-Triangle.ensures.up } in
+    let third : IsStepsOf c.steps-in-Triangle-2.result (corner c.args.p.now 0) (corner c.args.p.now 1) c.args.tile.x0 c.args.tile.y0 =
+    record { margin_is = c.steps-in-Triangle-2.ensures.margin; right_is = c.steps-in-Triangle-2.ensures.right; up_is = c.steps-in-Triangle-2.ensures.up } in
+    exact_bit c.args.p.now c.steps.result c.steps-in-Triangle.result c.steps-in-Triangle-2.result c.args.tile.x0 c.args.tile.y0 r i _
+    c.in-Triangle.is first second third (c.triangle_rows.ensures r i down along)
+
+pub returns-in-Point-clause-exact : goal.returns-in-Point-clause-exact
+returns-in-Point-clause-exact c r i down along =
+    none_bit c.args.p.now c.args.tile.x0 c.args.tile.y0 r i c.in-Point.is down

@@ -1,0 +1,15 @@
+use Rattle.std.proofs.Common.{◌≡◌, ℕ, ◌<◌, pos, ◌+ℤ◌, ◌*ℤ◌, min, length, slice_index}
+use Rattle.std.specs.Int.{bit_at}
+use Rattle.coverage.specs.Steps.{row_bit}
+use Rattle.coverage.proofs.tile_rows.triangle_rows.Given as goal
+
+abbrev pub invariant-loop-r : goal.invariant-loop-r
+invariant-loop-r l = record {
+  count : length l.rows ≡ 16;
+  done : (r : ℕ) → r < l.r → (i : ℕ) → i < 16 → bit_at (slice_index l.rows r) i
+      ≡ min
+      (min
+      (row_bit (l.fn.a.margin +ℤ (pos r *ℤ l.fn.a.up)) l.fn.a.right i)
+      (row_bit (l.fn.b.margin +ℤ (pos r *ℤ l.fn.b.up)) l.fn.b.right i))
+      (row_bit (l.fn.c.margin +ℤ (pos r *ℤ l.fn.c.up)) l.fn.c.right i);
+}
