@@ -1,5 +1,4 @@
-ghost use Rattle.std.specs.Prelude.{◌≡◌, ◌≤◌, ◌^◌};
-ghost use Rattle.std.specs.Prelude.{unsigned_abs};
+ghost use Rattle.std.specs.Prelude.{◌≡◌, ◌≤◌, ◌^◌, unsigned_abs};
 ghost use Rattle.primitive_setup.specs.Facing.{faces_front as front_is_seen, is_culled as side_is_culled, takes_back_colors as back_colors_of};
 ghost use Rattle.primitive_setup.specs.Setup.{area_of};
 ghost use Rattle.primitive_setup.specs.Window.{IsInViewport};

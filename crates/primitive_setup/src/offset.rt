@@ -1,4 +1,4 @@
-ghost use Rattle.std.specs.Prelude.{◌≡◌, ◌<◌, ◌≤◌, ◌^◌, ◌*◌, ◌≤ℤ◌, ◌*ℤ◌, pos, negsuc, unsigned_abs};
+ghost use Rattle.std.specs.Prelude.{◌≡◌, ◌≤◌, ◌^◌, ◌*◌, ◌≤ℤ◌, ◌*ℤ◌, pos, negsuc, unsigned_abs};
 ghost use Rattle.fx_arith.specs.Number.{floor_div};
 ghost use Rattle.primitive_setup.specs.Offset.{offset_for as offset_by, offset_of, slope_along_x as along_x, slope_along_y as along_y, steepest as steepest_of};
 ghost use Rattle.primitive_setup.specs.Window.{IsInWindow};

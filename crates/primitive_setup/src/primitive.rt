@@ -1,11 +1,11 @@
-ghost use Rattle.std.specs.Prelude.{◌≡◌, ◌≢◌, ◌≤◌, ◌^◌, ◌≤ℤ◌, pos, negsuc, unsigned_abs, IfSome, ◌+ℤ◌};
+ghost use Rattle.std.specs.Prelude.{◌≡◌, ◌≢◌, ◌≤◌, ◌^◌, ◌≤ℤ◌, pos, negsuc, unsigned_abs, IfSome};
+ghost use Rattle.gl_records.specs.ClipVertex.{AreInFront, vertex};
+ghost use Rattle.gl_records.specs.SetupRules.{AreRulesInRange};
 ghost use Rattle.gl_records.specs.Valid.{IsValid};
 ghost use Rattle.primitive_setup.specs.Facing.{doubled_area as area_in};
 ghost use Rattle.primitive_setup.specs.Offset.{with_offset as corner_with_offset};
-ghost use Rattle.gl_records.specs.ClipVertex.{AreInFront, vertex};
-ghost use Rattle.gl_records.specs.SetupRules.{AreRulesInRange};
-ghost use Rattle.primitive_setup.specs.Setup.{area_of, offset_triangle as offset_triangle_of, setup_of, triangle_of, counterclockwise_triangle as counterclockwise_of};
-ghost use Rattle.primitive_setup.specs.Window.{IsInViewport, IsInWindow, place_of};
+ghost use Rattle.primitive_setup.specs.Setup.{offset_triangle as offset_triangle_of, setup_of, triangle_of, counterclockwise_triangle as counterclockwise_of};
+ghost use Rattle.primitive_setup.specs.Window.{IsInWindow};
 
 use crate::bounds::{is_empty, pixel_bounds};
 use crate::facing::{doubled_area, faces_front, is_culled, takes_back_colors};
