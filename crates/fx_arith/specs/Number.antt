@@ -25,6 +25,7 @@ clamp low high z = if int_lt z low then low else if int_lt high z then high else
 abbrev pub nearest_fixed : ℤ → ℤ
 nearest_fixed = clamp (negsuc 2147483647) (pos 2147483647)
 
+-- a sum, and a difference, at an end of the range where it lies beyond
 abbrev pub add : ℤ → ℤ → ℤ
 add a b = nearest_fixed (a +ℤ b)
 
@@ -35,10 +36,11 @@ sub a b = nearest_fixed (a -ℤ b)
 abbrev pub fixed_of_products : ℤ → ℤ
 fixed_of_products products = nearest_fixed (floor_div products 65536)
 
+-- a product, rounded down
 abbrev pub mul : ℤ → ℤ → ℤ
 mul a b = fixed_of_products (a *ℤ b)
 
--- a over the whole number b
+-- a over b, both in units of 1/65536; b may be wider than a GLfixed, and it isn't 0
 abbrev pub div : ℤ → ℤ → ℤ
 div a b = nearest_fixed (floor_quotient (pos 65536 *ℤ a) b)
 
@@ -46,7 +48,7 @@ div a b = nearest_fixed (floor_quotient (pos 65536 *ℤ a) b)
 abbrev pub component : List Fx → ℕ → ℤ
 component vector k = (slice_index_or vector k (record { 0 = pos 0 })).0
 
--- the products of the components are added exactly and rounded once
+-- inner products: the products of the components are added exactly and rounded down once
 abbrev pub dot3 : List Fx → List Fx → ℤ
 dot3 a b = fixed_of_products (component a 0 *ℤ component b 0 +ℤ component a 1 *ℤ component b 1 +ℤ component a 2 *ℤ component b 2)
 

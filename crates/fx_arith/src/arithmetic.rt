@@ -25,7 +25,7 @@ pub fn mul(a: Fx, b: Fx) -> Fx
     saturate(product(a, b) >> 16)
 }
 
-/// `65536 * a / b` on the raw numbers, rounded down and saturated: the quotient of two GLfixed.
+/// `a / b`, rounded down and saturated; `b` is in units of 1/65536 too, and may be wider than a GLfixed.
 pub fn div(a: Fx, b: i64) -> Fx
     requires { b ≢ pos 0 }
     ensures { result.0 ≡ quotient_of a.0 b }

@@ -7,6 +7,7 @@ use Rattle.gl_records.specs.declared.clip_vertex.ClipVertex.{ClipVertex}
 abbrev pub no_vertex : ClipVertex
 no_vertex = record { clip = []; plane = record { 0 = pos 0 }; front = []; back = []; tex = []; fog = record { 0 = pos 0 } }
 
+-- vertex k of a list
 abbrev pub vertex : List ClipVertex → ℕ → ClipVertex
 vertex vertices k = slice_index_or vertices k no_vertex
 

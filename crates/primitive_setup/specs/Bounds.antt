@@ -8,6 +8,7 @@ use Rattle.gl_records.specs.declared.prim.VertexOut.{VertexOut}
 use Rattle.gl_records.specs.declared.size.Size.{Size}
 use Rattle.gl_records.specs.Coverage.{center}
 
+-- of three numbers, the least and the greatest
 abbrev pub least : ℤ → ℤ → ℤ → ℤ
 least a b c = int_min a (int_min b c)
 
@@ -22,6 +23,7 @@ first_from place = int_max (pos 0) (floor_div (place +ℤ pos 7) 16)
 abbrev pub end_at : ℤ → ℤ → ℤ
 end_at place side = int_min side (floor_div (place +ℤ pos 8) 16)
 
+-- from the first column and row to the last, cut to the surface
 unfoldable pub bounds_of : Size → VertexOut → VertexOut → VertexOut → PixelBox
 bounds_of size a b c = record {
   x0 = first_from (least a.x b.x c.x);

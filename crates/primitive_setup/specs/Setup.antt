@@ -41,13 +41,15 @@ visible_triangle rules size area a b c =
     behind : Bool
     behind = takes_back_colors rules.two_side (faces_front rules.front_ccw area)
 
+-- twice the area of the triangle with these places
 abbrev pub area_of : Place → Place → Place → ℤ
 area_of a b c = doubled_area a.x a.y b.x b.y c.x c.y
 
+-- the triangle that three vertices make
 unfoldable pub triangle_of : SetupRules → Size → ClipVertex → ClipVertex → ClipVertex → Option Primitive
 triangle_of rules size a b c = visible_triangle rules size (area_of (place_of rules a) (place_of rules b) (place_of rules c)) a b c
 
--- points and lines are not set up yet
+-- a primitive by its kind: points and lines are not set up yet
 abbrev pub setup_of : SetupRules → PrimKind → List ClipVertex → Size → Option Primitive
 setup_of rules Triangle vertices size = triangle_of rules size (vertex vertices 0) (vertex vertices 1) (vertex vertices 2)
 setup_of rules Point vertices size = None
