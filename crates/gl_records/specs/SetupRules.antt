@@ -9,7 +9,7 @@ abbrev pub viewport_entry : SetupRules → ℕ → ℤ
 viewport_entry rules k = slice_index_or rules.viewport k (pos 0)
 
 pub record AreRulesInRange (rules : SetupRules) : Type 0 where
-  pub x_from : negsuc 4095 ≤ℤ viewport_entry rules 0 -- -4096
+  pub x_from : negsuc 4095 ≤ℤ viewport_entry rules 0  -- -4096
   pub x_to : viewport_entry rules 0 ≤ℤ pos 4096
   pub y_from : negsuc 4095 ≤ℤ viewport_entry rules 1
   pub y_to : viewport_entry rules 1 ≤ℤ pos 4096
