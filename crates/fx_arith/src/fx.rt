@@ -1,5 +1,5 @@
 ghost use Rattle.std.specs.Prelude.{◌≡◌, ◌≤ℤ◌};
-ghost use Rattle.fx_arith.specs.Number.{clamp as clamped};
+ghost use Rattle.fx_arith.specs.Number.{clamp as clamped, nearest_fixed};
 
 /// A GLfixed: the number of 1/65536 that it holds (OpenGL ES 1.1.12, 2.3).
 #[derive(Clone, Copy, Debug, PartialEq, Eq)]
@@ -24,5 +24,18 @@ pub fn clamp(a: Fx, low: Fx, high: Fx) -> Fx
         high
     } else {
         a
+    }
+}
+
+/// The GLfixed nearest to `raw`, in units of 1/65536.
+pub fn saturate(raw: i64) -> Fx
+    ensures { result.0 ≡ nearest_fixed raw }
+{
+    if raw < -2147483648 {
+        Fx(i32::MIN)
+    } else if 2147483647 < raw {
+        Fx(i32::MAX)
+    } else {
+        Fx(raw as i32)
     }
 }

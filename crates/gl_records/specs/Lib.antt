@@ -1,9 +1,11 @@
 pub mod After
 pub mod Clear
+pub mod ClipVertex
 pub mod Coverage
 pub mod Depth
 pub mod Interpolation
 pub mod PixelBox
+pub mod SetupRules
 pub mod Surface
 pub mod Tiles
 pub mod Valid

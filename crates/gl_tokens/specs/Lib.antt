@@ -1,2 +1,5 @@
+pub mod ArrayKind
 pub mod Coded
+pub mod ComponentType
 pub mod GlError
+pub mod Mode

@@ -1,0 +1,6 @@
+pub mod Boxes
+pub mod Clamps
+pub mod Edges
+pub mod Made
+pub mod Valid
+pub mod Words

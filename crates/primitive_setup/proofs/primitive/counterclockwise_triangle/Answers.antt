@@ -1,0 +1,8 @@
+use Rattle.std.proofs.Common.{arith}
+use Rattle.std.proofs.lemmas.Int.{ints}
+use Rattle.primitive_setup.specs.Facing.{doubled_area}
+use Rattle.primitive_setup.proofs.primitive.counterclockwise_triangle.Goals as goal
+
+pub offset_triangle-requires-clause-counterclockwise : goal.offset_triangle-requires-clause-counterclockwise
+unfolding doubled_area
+offset_triangle-requires-clause-counterclockwise c = omega (arith, ints, c.requires.of_corners)

@@ -1,0 +1,44 @@
+-- The pixels of the surface whose centres lie in the closed box of a triangle's corners (this project's
+-- profile).
+use Rattle.std.specs.Prelude.{ℤ, pos, ◌+ℤ◌, ◌≤ℤ◌, Bool, ◌||◌, int_le}
+use Rattle.std.specs.Int.{int_max, int_min}
+use Rattle.fx_arith.specs.Number.{floor_div}
+use Rattle.gl_records.specs.declared.pixel_box.PixelBox.{PixelBox}
+use Rattle.gl_records.specs.declared.prim.VertexOut.{VertexOut}
+use Rattle.gl_records.specs.declared.size.Size.{Size}
+use Rattle.gl_records.specs.Coverage.{center}
+
+-- of three numbers, the least and the greatest
+abbrev pub least : ℤ → ℤ → ℤ → ℤ
+least a b c = int_min a (int_min b c)
+
+abbrev pub greatest : ℤ → ℤ → ℤ → ℤ
+greatest a b c = int_max a (int_max b c)
+
+-- the first column, or row, of the surface whose centre is at the place or past it
+abbrev pub first_from : ℤ → ℤ
+first_from place = int_max (pos 0) (floor_div (place +ℤ pos 7) 16)
+
+-- one past the last column, or row, of the surface whose centre is at the place or short of it
+abbrev pub end_at : ℤ → ℤ → ℤ
+end_at place side = int_min side (floor_div (place +ℤ pos 8) 16)
+
+-- from the first column and row to the last, cut to the surface
+unfoldable pub bounds_of : Size → VertexOut → VertexOut → VertexOut → PixelBox
+bounds_of size a b c = record {
+  x0 = first_from (least a.x b.x c.x);
+  y0 = first_from (least a.y b.y c.y);
+  x1 = end_at (greatest a.x b.x c.x) (pos size.w);
+  y1 = end_at (greatest a.y b.y c.y) (pos size.h);
+}
+
+-- the box holds no pixel
+abbrev pub is_empty : PixelBox → Bool
+is_empty area = int_le area.x1 area.x0 || int_le area.y1 area.y0
+
+-- the centre of pixel (x, y) lies in the closed box of the corners
+pub record IsCenterWithin (a b c : VertexOut) (x y : ℤ) : Type 0 where
+  pub left : least a.x b.x c.x ≤ℤ center x
+  pub right : center x ≤ℤ greatest a.x b.x c.x
+  pub bottom : least a.y b.y c.y ≤ℤ center y
+  pub top : center y ≤ℤ greatest a.y b.y c.y

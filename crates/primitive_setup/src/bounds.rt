@@ -1,0 +1,72 @@
+ghost use Rattle.std.specs.Prelude.{◌≡◌, ◌↔◌, ℕ, ◌<◌, ◌≤ℤ◌, pos, negsuc, IsTrue};
+ghost use Rattle.gl_records.specs.PixelBox.{holds};
+ghost use Rattle.primitive_setup.specs.Bounds.{bounds_of, end_at as end_of, first_from as first_of, greatest as greatest_of, is_empty as holds_none, least as least_of, IsCenterWithin};
+ghost use Rattle.primitive_setup.specs.Window.{IsInWindow};
+
+use gl_records::{PixelBox, Size, VertexOut};
+
+/// The pixels of the surface whose centres lie in the closed box of the corners.
+#[tactic(auto, unfolding(crate::specs::Bounds::bounds_of))]
+pub(crate) fn pixel_bounds(size: Size, a: &VertexOut, b: &VertexOut, c: &VertexOut) -> PixelBox
+    requires first { IsInWindow a.now }
+    requires second { IsInWindow b.now }
+    requires third { IsInWindow c.now }
+    ensures value { result ≡ bounds_of size a.now b.now c.now }
+    ensures exact { (x y : ℕ) → IsTrue (holds result x y) ↔ ((x < size.w) × (y < size.h) × IsCenterWithin a.now b.now c.now (pos x) (pos y)) }
+{
+    PixelBox {
+        x0: first_from(least(a.x, b.x, c.x)),
+        y0: first_from(least(a.y, b.y, c.y)),
+        x1: end_at(greatest(a.x, b.x, c.x), size.w),
+        y1: end_at(greatest(a.y, b.y, c.y), size.h),
+    }
+}
+
+/// Whether the box holds no pixel.
+pub(crate) fn is_empty(area: &PixelBox) -> bool
+    ensures { result ≡ holds_none area.now }
+{
+    area.x1 <= area.x0 || area.y1 <= area.y0
+}
+
+fn least(a: i32, b: i32, c: i32) -> i32
+    requires a_from { negsuc 65535 ≤ℤ a }
+    requires a_to { a ≤ℤ pos 98304 }
+    requires b_from { negsuc 65535 ≤ℤ b }
+    requires c_from { negsuc 65535 ≤ℤ c }
+    ensures value { result ≡ least_of a b c }
+    ensures from { negsuc 65535 ≤ℤ result }
+    ensures to { result ≤ℤ pos 98304 }
+{
+    a.min(b.min(c))
+}
+
+fn greatest(a: i32, b: i32, c: i32) -> i32
+    requires a_from { negsuc 65535 ≤ℤ a }
+    requires a_to { a ≤ℤ pos 98304 }
+    requires b_to { b ≤ℤ pos 98304 }
+    requires c_to { c ≤ℤ pos 98304 }
+    ensures value { result ≡ greatest_of a b c }
+    ensures from { negsuc 65535 ≤ℤ result }
+    ensures to { result ≤ℤ pos 98304 }
+{
+    a.max(b.max(c))
+}
+
+/// The first column, or row, of the surface whose centre is at the place or past it.
+fn first_from(place: i32) -> i32
+    requires from { negsuc 65535 ≤ℤ place }
+    requires to { place ≤ℤ pos 98304 }
+    ensures { result ≡ first_of place }
+{
+    0.max((place + 7) >> 4)
+}
+
+/// One past the last column, or row, of the surface whose centre is at the place or short of it.
+fn end_at(place: i32, side: u16) -> i32
+    requires from { negsuc 65535 ≤ℤ place }
+    requires to { place ≤ℤ pos 98304 }
+    ensures { result ≡ end_of place (pos side) }
+{
+    i32::from(side).min((place + 8) >> 4)
+}
