@@ -1,3 +1,7 @@
+pub mod Bytes
+pub mod Commands
 pub mod Filled
+pub mod Outcomes
 pub mod Pieces
+pub mod Spellings
 pub mod Tails

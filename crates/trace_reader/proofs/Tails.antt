@@ -1,17 +1,14 @@
 -- What the bytes are from a place on, unfolded by one record.
-use Rattle.std.proofs.Common.{◌≡◌, ◌≢◌, ◌≤◌, ◌<◌, ◌+◌, ◌-◌, ℕ, zero, suc, Bool, true, false, cond, eqb, ltb, List, [], ◌∷◌, length, drop, Option, Some, None, IfSome, IsSomeAnd, MatchBool, Result, Ok, Err, refl, sym, ap, subst, ◌∙◌, arith}
+use Rattle.std.proofs.Common.{◌≡◌, ◌≢◌, ◌≤◌, ◌+◌, ℕ, zero, suc, Bool, true, false, eqb, ltb, List, [], ◌∷◌, length, drop, Option, Some, None, IfSome, Result, Ok, Err, refl, sym, ap, ◌∙◌, arith}
 use Rattle.std.proofs.lemmas.Bool.{ltb-false, eq-eqb, ne_eqb}
 use Rattle.std.proofs.lemmas.List.{length-drop, nil_from_length}
 use Rattle.gl_records.specs.declared.rec.Rec.{Rec}
 use Rattle.gl_records.specs.declared.rec.Rec.TheVariants.{End}
 use Rattle.trace_reader.specs.declared.cause.Cause.{Cause}
-use Rattle.trace_reader.specs.declared.cause.Cause.TheVariants.{Short, NoEnd, BadZero, UnknownOp, TooLong, BadLength, Trailing}
+use Rattle.trace_reader.specs.declared.cause.Cause.TheVariants.{Short, NoEnd, TooLong, BadLength, Trailing}
 use Rattle.trace_reader.specs.declared.table.Shape.{Shape}
-use Rattle.trace_reader.specs.declared.record.Stop.{Stop}
-use Rattle.trace_reader.specs.declared.record.Stop.TheVariants.{Malformed, Failed}
-use Rattle.trace_reader.specs.Numbers.{number_at, words}
-use Rattle.trace_reader.specs.Table.{row, allows}
-use Rattle.trace_reader.specs.Reading.{Takes, EndsAt, ReadsAt}
+use Rattle.trace_reader.specs.declared.record.Stop.TheVariants.{Malformed}
+use Rattle.trace_reader.specs.Reading.{ReadsAt}
 use Rattle.trace_reader.specs.Steps.{RecordRead}
 use Rattle.trace_reader.specs.Trace.{Head, Tail, refused_if, head, body, record_of, record_at, is_end, ended, refused, with_record, after_record, tail_within, tail_at}
 

@@ -1,5 +1,5 @@
 -- A trace that is read record by record: what an answer says of what the trace still has.
-use Rattle.std.specs.Prelude.{◌≡◌, ℕ, ◌+◌, Bool, List, [], Option, Some, Result, Ok, Err, IsSomeAnd, if◌then◌else◌, MatchBool}
+use Rattle.std.specs.Prelude.{◌≡◌, ℕ, ◌+◌, List, [], Option, Some, Result, Ok, Err, IsSomeAnd, if◌then◌else◌, MatchBool}
 use Rattle.gl_records.specs.declared.rec.Rec.{Rec}
 use Rattle.gl_records.specs.declared.size.Size.{Size}
 use Rattle.trace_reader.specs.declared.cause.ReadEnd.{ReadEnd}

@@ -1,12 +1,10 @@
 -- One record read from a source: what it is, or why there is none, by the bytes that the source had and has.
 use Rattle.std.specs.Prelude.{◌≡◌, ◌≤◌, ◌<◌, ℕ, ◌+◌, List, length, take, drop, Option, Some, Result, Ok, Err}
 use Rattle.gl_records.specs.declared.rec.Rec.{Rec}
-use Rattle.trace_reader.specs.declared.cause.Cause.{Cause}
 use Rattle.trace_reader.specs.declared.cause.Cause.TheVariants.{Short}
 use Rattle.trace_reader.specs.declared.record.Head.{Head}
 use Rattle.trace_reader.specs.declared.record.Stop.{Stop}
 use Rattle.trace_reader.specs.declared.record.Stop.TheVariants.{Malformed, Failed}
-use Rattle.trace_reader.specs.Table.{row}
 use Rattle.trace_reader.specs.Numbers.{words}
 use Rattle.trace_reader.specs.Trace as trace
 

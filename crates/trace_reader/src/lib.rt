@@ -12,10 +12,12 @@
 
 mod cause;
 mod fill;
+mod laws;
 mod reader;
 mod record;
 mod stage;
 mod table;
 
 pub use cause::{Cause, ReadEnd};
+pub use laws::{one_outcome, spelling_reads_back};
 pub use reader::Reader;

@@ -1,4 +1,4 @@
-use Rattle.std.proofs.Common.{◌≤◌, length, ◌+◌, ◌-◌, arith}
+use Rattle.std.proofs.Common.{◌≤◌, length, arith}
 use Rattle.std.proofs.lemmas.List.{length-append, length-take-le}
 use Rattle.trace_reader.proofs.Filled.{filled_more}
 use Rattle.trace_reader.proofs.fill.fill.Goals as goal
