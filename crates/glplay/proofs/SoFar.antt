@@ -1,5 +1,5 @@
 -- A trace that is played up to a record.
-use Rattle.std.proofs.Common.{◌≡◌, ◌∙◌, ℕ, suc, ◌+◌, Bool, true, false, List, [], ◌∷◌, ◌++◌, length, Option, Some, None, IfSome, IsSomeAnd, MatchBool, Result, Ok, Err, refl, sym, ap, subst, append_assoc, arith}
+use Rattle.std.proofs.Common.{◌≡◌, ◌∙◌, ℕ, suc, ◌+◌, false, List, [], ◌++◌, length, Option, Some, None, IfSome, IsSomeAnd, Ok, Err, refl, sym, ap, subst, append_assoc, arith}
 use Rattle.std.specs.Io.KnownBytes.{Appends}
 use Rattle.std.proofs.KnownBytes.{Appends-trans, Appends-nil}
 use Rattle.gl_records.specs.declared.rec.Rec.{Rec}
@@ -9,15 +9,11 @@ use Rattle.trace_reader.specs.declared.cause.Cause.{Cause}
 use Rattle.trace_reader.specs.declared.cause.ReadEnd.TheVariants as read
 use Rattle.trace_reader.specs.Progress.{Progress}
 use Rattle.trace_reader.specs.Reading.{Reads, tail_of}
-use Rattle.trace_reader.specs.Trace.{Tail, Ending, Ended, Malformed, ended, refused, with_record, is_end}
-use Rattle.glplay.specs.declared.fault.Fault.{Fault}
-use Rattle.glplay.specs.declared.status.Status.{Status}
-use Rattle.glplay.specs.declared.status.Status.TheVariants.{Done, Refused}
-use Rattle.glplay.specs.Answer.{Puts, Plays}
+use Rattle.trace_reader.specs.Trace.{Tail, Ending, Ended, Malformed, with_record, is_end}
 use Rattle.glplay.specs.Immediate.{Output, then_output, call_output, immediate, last_output, output_of_tail}
 use Rattle.glplay.specs.Log.{end_line, refused_line, last_line}
 use Rattle.glplay.specs.Playing.{Playing, call, ran}
-use Rattle.glplay.proofs.Growth.{front_whole, front_after, front_goes_on, puts_after}
+use Rattle.glplay.proofs.Growth.{front_after, front_goes_on}
 
 then_output-assoc : (a b c : Output) → then_output (then_output a b) c ≡ then_output a (then_output b c)
 then_output-assoc a b c =

@@ -1,5 +1,5 @@
 -- Commands that draw nothing.
-use Rattle.std.proofs.Common.{◌≡◌, ◌∙◌, ℕ, Bool, true, false, List, [], Result, Ok, Err, OnOk, refl, ap}
+use Rattle.std.proofs.Common.{◌≡◌, ◌∙◌, ℕ, true, false, List, [], Result, Ok, Err, OnOk, refl, ap}
 use Rattle.fx_arith.specs.declared.fx.Fx.{Fx}
 use Rattle.gl_records.specs.declared.item.Item.{Item}
 use Rattle.gl_records.specs.declared.rec.Rec.TheVariants.{End, Swap, ClearColorx, Clear}

@@ -1,5 +1,5 @@
 -- A command line of one word.
-use Rattle.std.proofs.Common.{◌≡◌, ◌∙◌, ℕ, suc, Bool, true, List, [], ◌∷◌, length, get_or, map, eqb, refl, sym, ap, arith}
+use Rattle.std.proofs.Common.{◌≡◌, ◌∙◌, ℕ, Bool, true, List, [], ◌∷◌, length, get_or, map, eqb, sym, ap, arith}
 use Rattle.std.specs.Prelude.{String, codes}
 use Rattle.std.specs.Global.{Global}
 use Rattle.std.specs.String.{string_bytes}

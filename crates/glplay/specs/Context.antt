@@ -1,5 +1,5 @@
 -- The context of the commands, and what a Clear takes from it.
-use Rattle.std.specs.Prelude.{ℕ, pos, Bool, true, not, ◌==◌, List, [], ◌∷◌, map, Option, Some, None, if◌then◌else◌, bit_and}
+use Rattle.std.specs.Prelude.{ℕ, pos, Bool, true, not, ◌==◌, List, [], ◌∷◌, map, Some, None, if◌then◌else◌, bit_and}
 use Rattle.fx_arith.specs.Number.{clamp, one, c8}
 use Rattle.fx_arith.specs.declared.fx.Fx.{Fx}
 use Rattle.gl_records.specs.declared.clear.ClearItem.{ClearItem}

@@ -1,7 +1,6 @@
 -- The immediate renderer: records in order, each item drawn wholly on a whole surface before the next.
 use Rattle.std.specs.Prelude.{ℕ, ◌+◌, List, [], ◌∷◌, ◌++◌, length}
 use Rattle.gl_records.specs.declared.rec.Rec.{Rec}
-use Rattle.gl_records.specs.declared.size.Size.{Size}
 use Rattle.trace_reader.specs.Trace.{Ending, Tail, Outcome, BadHeader, Readable, trace_of}
 use Rattle.glplay.specs.Call.{Called}
 use Rattle.glplay.specs.Log.{last_line, refused_line}

@@ -1,10 +1,8 @@
-use Rattle.std.proofs.Common.{◌≡◌, ◌∙◌, ◌++◌, List, ℕ, suc, take, drop, get_or, ap, subst}
+use Rattle.std.proofs.Common.{◌≡◌, ◌∙◌, get_or, ap}
 use Rattle.std.specs.Global.{Vec}
 use Rattle.gl_records.specs.declared.pixel.Pixel.{Pixel}
 use Rattle.std.proofs.lemmas.Result.{err_from_is_err_and}
-use Rattle.gl_records.specs.Surface.{row_bytes, surface_bytes}
-use Rattle.outer_io.specs.Bytes.{AppendsFront}
-use Rattle.glplay.specs.Rows.{rows_of}
+use Rattle.gl_records.specs.Surface.{row_bytes}
 use Rattle.glplay.proofs.Growth.{front_whole, front_goes_on, front_after, surface_split}
 use Rattle.glplay.proofs.frame.put_rows.Goals as goal
 

@@ -1,7 +1,6 @@
 use Rattle.std.proofs.Common.{◌≡◌, ◌∙◌, ◌+◌, ◌≤◌, refl, ap, false, arith}
 use Rattle.std.proofs.lemmas.Result.{err_from_is_err_and}
 use Rattle.trace_reader.specs.Trace.{is_end}
-use Rattle.trace_reader.specs.declared.stage.Stage.TheVariants.{Reading}
 use Rattle.trace_reader.proofs.Tails.{is_end-other}
 use Rattle.glplay.specs.Playing.{Playing, ran}
 use Rattle.glplay.proofs.SoFar.{nothing_played, played_more, run_front, end_front, refused_front}

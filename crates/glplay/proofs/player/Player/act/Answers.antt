@@ -1,4 +1,4 @@
-use Rattle.std.proofs.Common.{◌≡◌, ◌∙◌, sym, refl}
+use Rattle.std.proofs.Common.{sym}
 use Rattle.glplay.specs.Playing.{Playing}
 use Rattle.glplay.proofs.Steps.{on_ok, end_stays, swap_stays, color_alone}
 use Rattle.glplay.proofs.player.Player.act.Goals as goal

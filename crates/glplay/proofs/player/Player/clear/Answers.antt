@@ -1,4 +1,4 @@
-use Rattle.std.proofs.Common.{◌≡◌, ◌∙◌, true, false, sym, refl}
+use Rattle.std.proofs.Common.{◌≡◌, ◌∙◌, true, false, sym}
 use Rattle.glplay.specs.Context.{has_other_bits}
 use Rattle.glplay.proofs.Steps.{on_ok, raised_stays, empty_stays}
 use Rattle.glplay.proofs.player.Player.clear.Goals as goal
