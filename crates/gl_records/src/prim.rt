@@ -1,6 +1,6 @@
 use crate::pixel_box::PixelBox;
 
-/// A corner of a primitive in window coordinates (OpenGL ES 1.1.12, 2.11).
+/// A corner of a primitive in window coordinates (OpenGL ES 1.1.12, 2.10.1).
 #[derive(Clone, Copy, Debug, PartialEq, Eq)]
 pub struct VertexOut {
     /// The place in units of 1/16 pixel, from the lower left; a pixel's centre is 8 units in.
