@@ -3,5 +3,6 @@ pub mod Commands
 pub mod Filled
 pub mod Outcomes
 pub mod Pieces
+pub mod SpelledBytes
 pub mod Spellings
 pub mod Tails

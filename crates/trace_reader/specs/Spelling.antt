@@ -22,12 +22,16 @@ pub record Command : Type 0 where
   pub opcode : ℕ
   pub payload : List ℕ
 
+-- a command whose payload is words
+abbrev pub words_command : ℕ → List ℕ → Command
+words_command opcode words = record { opcode = opcode; payload = words_bytes words }
+
 -- the command of a record, a line for each row of the table
 abbrev pub command : Rec → Command
-command End = record { opcode = 0x01; payload = [] }
-command Swap = record { opcode = 0x02; payload = [] }
-command (ClearColorx red green blue alpha) = record { opcode = 0x62; payload = words_bytes (bits red ∷ bits green ∷ bits blue ∷ bits alpha ∷ []) }
-command (Clear mask) = record { opcode = 0x65; payload = words_bytes (mask ∷ []) }
+command End = words_command 0x01 []
+command Swap = words_command 0x02 []
+command (ClearColorx red green blue alpha) = words_command 0x62 (bits red ∷ bits green ∷ bits blue ∷ bits alpha ∷ [])
+command (Clear mask) = words_command 0x65 (mask ∷ [])
 
 -- the record's arguments are numbers of 32 bits
 abbrev pub FitsWords : Rec → Type 0

@@ -45,6 +45,7 @@ impl Reader {
         ensures sides { IfOk result (λ begun. IsSize begun.1) }
         ensures read_fault { result ≡ Err ReadEnd.ReadFault → Rose (S.faults source.old) (S.faults source.new) }
         ensures faults { S.faults source.old ≤ S.faults source.new }
+        ensures memory { result ≢ Err ReadEnd.NoMemory }
     {
         let mut bytes = [0; 8];
         if fill(source, &mut bytes)? < 8 {

@@ -1,0 +1,55 @@
+-- What is spelled is bytes.
+use Rattle.std.proofs.Common.{◌<◌, ◌/◌, ◌^◌, ℕ, zero, suc, List, [], ◌∷◌, ◌++◌, length, flat_map, lit<, arith}
+use Rattle.std.specs.Prelude.{codes}
+use Rattle.std.specs.Int.{bytes_low_first}
+use Rattle.std.proofs.Math.Nat.{mod-lt}
+use Rattle.std.proofs.lemmas.List.Elements.{All-nil, All-cons, All-append}
+use Rattle.byteorder.specs.Endian.{little_bytes}
+use Rattle.gl_records.specs.declared.rec.Rec.{Rec}
+use Rattle.gl_records.specs.declared.rec.Rec.TheVariants.{End, Swap, ClearColorx, Clear}
+use Rattle.gl_records.specs.declared.size.Size.{Size}
+use Rattle.trace_reader.specs.Spelling.{bits, words_bytes, command, record_bytes, records_bytes, spell, IsBytes}
+
+abbrev IsByte : ℕ → Type 0
+IsByte byte = byte < 2 ^ 8
+
+joined : (xs ys : List ℕ) → IsBytes xs → IsBytes ys → IsBytes (xs ++ ys)
+joined xs ys = All-append IsByte xs ys
+
+little_bytes-from : (i n x : ℕ) → IsBytes (bytes_low_first i n x)
+little_bytes-from i zero x = All-nil IsByte
+little_bytes-from zero (suc n) x = All-cons IsByte _ _ (mod-lt x (omega arith)) (little_bytes-from 1 n x)
+little_bytes-from (suc i) (suc n) x = All-cons IsByte _ _ (mod-lt (x / 256 ^ suc i) (omega arith)) (little_bytes-from (suc (suc i)) n x)
+
+words_bytes-bytes : (ns : List ℕ) → IsBytes (words_bytes ns)
+words_bytes-bytes [] = All-nil IsByte
+words_bytes-bytes (n ∷ ns) = joined (little_bytes 4 n) (words_bytes ns) (little_bytes-from 0 4 n) (words_bytes-bytes ns)
+
+-- a case for each row of the table
+payload-bytes : (rec : Rec) → IsBytes (command rec).payload
+payload-bytes End = All-nil IsByte
+payload-bytes Swap = All-nil IsByte
+payload-bytes (ClearColorx red green blue alpha) = words_bytes-bytes (bits red ∷ bits green ∷ bits blue ∷ bits alpha ∷ [])
+payload-bytes (Clear mask) = words_bytes-bytes (mask ∷ [])
+
+numbers_then : (n k x y : ℕ) (rest : List ℕ) → IsBytes rest → IsBytes (little_bytes n x ++ (little_bytes k y ++ rest))
+numbers_then n k x y rest each = joined (little_bytes n x) (little_bytes k y ++ rest) (little_bytes-from 0 n x) (joined (little_bytes k y) rest (little_bytes-from 0 k y) each)
+
+record_bytes-bytes : (rec : Rec) → IsBytes (record_bytes rec)
+record_bytes-bytes rec =
+    let own : List ℕ = (command rec).payload in
+    numbers_then 2 2 (command rec).opcode 0 (little_bytes 4 (length own) ++ own) (joined (little_bytes 4 (length own)) own (little_bytes-from 0 4 (length own)) (payload-bytes rec))
+
+each-bytes : (records : List Rec) → IsBytes (flat_map record_bytes records)
+each-bytes [] = All-nil IsByte
+each-bytes (rec ∷ records) = joined (record_bytes rec) (flat_map record_bytes records) (record_bytes-bytes rec) (each-bytes records)
+
+magic-bytes : IsBytes (codes "GLT1")
+magic-bytes = first 71 (codes "LT1") (lit< tt) (first 76 (codes "T1") (lit< tt) (first 84 (codes "1") (lit< tt) (first 49 [] (lit< tt) (All-nil IsByte)))) where
+  first : (x : ℕ) (xs : List ℕ) → x < 2 ^ 8 → IsBytes xs → IsBytes (x ∷ xs)
+  first x xs = All-cons IsByte x xs
+
+pub spell-bytes : (size : Size) (records : List Rec) → IsBytes (spell size records)
+spell-bytes size records =
+    joined (codes "GLT1") (little_bytes 2 size.w ++ (little_bytes 2 size.h ++ records_bytes records)) magic-bytes
+    (numbers_then 2 2 size.w size.h (records_bytes records) (each-bytes (records ++ End ∷ [])))
