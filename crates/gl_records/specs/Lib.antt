@@ -3,9 +3,11 @@ pub mod Clear
 pub mod ClipVertex
 pub mod Coverage
 pub mod Depth
+pub mod Draw
 pub mod Interpolation
 pub mod PixelBox
 pub mod SetupRules
+pub mod Size
 pub mod Surface
 pub mod Tiles
 pub mod Valid

@@ -1,5 +1,5 @@
 -- The surface that is drawn on: its rows from the bottom, each with its pixels from the left.
-use Rattle.std.specs.Prelude.{ℕ, List, [], ◌∷◌, map, replicate}
+use Rattle.std.specs.Prelude.{◌≡◌, ℕ, List, [], ◌∷◌, length, map, replicate, All}
 use Rattle.std.specs.List.{enumerate_from, flat_map}
 use Rattle.gl_records.specs.declared.item.Item.{Item}
 use Rattle.gl_records.specs.declared.pixel.Pixel.{Pixel}
@@ -15,6 +15,11 @@ opening_pixel = record { rgba = 0 ∷ 0 ∷ 0 ∷ 0 ∷ []; z = 16777215; s = 0 
 
 abbrev pub opening_surface : Size → Surface
 opening_surface size = replicate size.h (replicate size.w opening_pixel)
+
+-- the surface has the sides of this size
+pub record IsShaped (size : Size) (surface : Surface) : Type 0 where
+  pub height : length surface ≡ size.h
+  pub width : All (λ row. length row ≡ size.w) surface
 
 -- row y after the items
 abbrev pub drawn_row : List Item → ℕ → List Pixel → List Pixel

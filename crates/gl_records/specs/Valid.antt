@@ -1,5 +1,7 @@
 -- Which primitives set-up hands to the rasteriser (this project's profile).
 use Rattle.std.specs.Prelude.{ℕ, pos, negsuc, ◌≤ℤ◌, ◌<ℤ◌, ◌^◌, ◌<◌, ◌≤◌, IsTrue}
+use Rattle.gl_records.specs.declared.item.Item.{Item}
+use Rattle.gl_records.specs.declared.item.Item.TheVariants.{Draw, Clear}
 use Rattle.gl_records.specs.declared.pixel_box.PixelBox.{PixelBox}
 use Rattle.gl_records.specs.declared.prim.Primitive.{Primitive}
 use Rattle.gl_records.specs.declared.prim.PrimKind.{PrimKind}
@@ -47,3 +49,8 @@ pub record IsValid (p : Primitive) (size : Size) : Type 0 where
   pub in_range : IsInRange p
   pub bounds : IsBoxOf size p.bounds
   pub holds_covered : (x y : ℕ) → x < size.w → y < size.h → IsTrue (covers p (pos x) (pos y)) → IsTrue (holds p.bounds x y)
+
+-- an item that a surface of this size can take
+abbrev pub IsDrawable : Item → Size → Type 0
+IsDrawable (Draw prim) size = IsValid prim size
+IsDrawable (Clear clear) size = Unit {0}

@@ -10,6 +10,8 @@
 //! ```
 #![tactic(auto)]
 
+mod attribs;
+mod bytes;
 mod clear;
 mod clip_vertex;
 mod item;
@@ -21,6 +23,8 @@ mod setup_rules;
 mod size;
 mod tile;
 
+pub use attribs::Attribs;
+pub use bytes::Bytes;
 pub use clear::ClearItem;
 pub use clip_vertex::ClipVertex;
 pub use item::Item;

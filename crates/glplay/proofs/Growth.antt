@@ -8,7 +8,7 @@ use Rattle.gl_records.specs.declared.pixel.Pixel.{Pixel}
 use Rattle.gl_records.specs.Surface.{row_bytes, surface_bytes}
 use Rattle.outer_io.specs.Bytes.{AppendsFront}
 use Rattle.glplay.specs.Answer.{Puts}
-use Rattle.glplay.specs.Rows.{rows_of}
+use Rattle.whole_surface.specs.Rows.{rows_of}
 
 -- what grew by the whole grew by a front of it
 pub front_whole : (a b : Option (List ℕ)) (x : List ℕ) → Appends a b x → AppendsFront a b x
@@ -30,6 +30,11 @@ front_after a b c x y grew f = (x ++ f.0, f.1, ap (λ (l : List ℕ). x ++ l) f.
 pub puts_after : {A E : Type 0} (r : Result A E) (a b c : Option (List ℕ)) (x y : List ℕ) → Appends a b x → Puts r b c y → Puts r a c (x ++ y)
 puts_after (Ok value) a b c x y grew put = Appends-trans a b c x y grew put
 puts_after (Err fault) a b c x y grew put = front_after a b c x y grew put
+
+-- a step that puts nothing
+pub puts_nothing : {A E : Type 0} (r : Result A E) (a : Option (List ℕ)) → Puts r a a []
+puts_nothing (Ok value) a = Appends-nil a
+puts_nothing (Err fault) a = front_none a []
 
 -- the rows before a row, it, and those after it
 pub surface_split : (rows : List (Vec Pixel)) (i : ℕ) (d : Vec Pixel) → i < length rows

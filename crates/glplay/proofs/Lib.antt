@@ -1,5 +1,6 @@
-pub mod Drawings
 pub mod Growth
+pub mod Refusals
 pub mod SoFar
 pub mod Steps
+pub mod Triangles
 pub mod WordLemmas

@@ -109,6 +109,37 @@ last_front then tail all ending f g l m n so is line =
     let left : (output_of_tail then tail).log ≡ last_line then.index ending = ap (λ (t : Tail). (output_of_tail then t).log) is ∙ ap (λ (k : ℕ). last_line k ending) count in
     subst (AppendsFront l n) (sym (so.all_log ∙ ap (λ (k : List ℕ). so.log ++ k) left)) (front_after l m n so.log (last_line then.index ending) so.log_put line)
 
+-- the last line, and all was put
+last_whole : (then : Playing) (tail : Tail) (all : Output) (ending : Ending) (f g l m n : Option (List ℕ)) → IsSoFar all (output_of_tail then tail) f g l m → tail ≡ (let last : Tail = record { records = []; ending = ending } in last)
+    → Appends m n (last_line then.index ending) → Appends l n all.log
+last_whole then tail all ending f g l m n so is line =
+    let count : then.index + 0 ≡ then.index = omega arith in
+    let left : (output_of_tail then tail).log ≡ last_line then.index ending = ap (λ (t : Tail). (output_of_tail then t).log) is ∙ ap (λ (k : ℕ). last_line k ending) count in
+    subst (Appends l n) (sym (so.all_log ∙ ap (λ (k : List ℕ). so.log ++ k) left)) (Appends-trans l m n so.log (last_line then.index ending) so.log_put line)
+
+-- what was put is a front of all
+pub played_front : (reader now : Progress) (player then : Playing) (known left f g l m : Option (List ℕ)) → IsPlayed reader now player then known left f g l m
+    → IfSome known (λ bytes. AppendsFront f g (output_of_tail player (tail_of reader bytes)).frames) × IfSome known (λ bytes. AppendsFront l m (output_of_tail player (tail_of reader bytes)).log)
+played_front reader now player then None left f g l m played = (tt, tt)
+played_front reader now player then (Some bytes) None f g l m played = absurd played.so_far
+played_front reader now player then (Some bytes) (Some rest) f g l m played =
+    let so = played.so_far in
+    ((so.frames, (output_of_tail then (tail_of now rest)).frames, so.all_frames, so.frames_put), (so.log, (output_of_tail then (tail_of now rest)).log, so.all_log, so.log_put))
+
+pub end_whole : (reader now next : Progress) (player then : Playing) (known left after f g l m n : Option (List ℕ)) → IsPlayed reader now player then known left f g l m
+    → IfSome left (λ rest. Reads now rest (Ok End) next after) → Appends m n (end_line then.index) → IfSome known (λ bytes. Appends l n (output_of_tail player (tail_of reader bytes)).log)
+end_whole reader now next player then None left after f g l m n played reads line = tt
+end_whole reader now next player then (Some bytes) None after f g l m n played reads line = absurd played.so_far
+end_whole reader now next player then (Some bytes) (Some rest) after f g l m n played reads line = last_whole then (tail_of now rest) _ Ended f g l m n played.so_far reads.0 line
+
+pub refused_whole : (reader now next : Progress) (player then : Playing) (known left after f g l m n : Option (List ℕ)) (index offset : ℕ) (cause : Cause) → IsPlayed reader now player then known left f g l m
+    → IfSome left (λ rest. Reads now rest (Err (read.Malformed index offset cause)) next after) → Appends m n (refused_line index offset cause)
+    → IfSome known (λ bytes. Appends l n (output_of_tail player (tail_of reader bytes)).log)
+refused_whole reader now next player then None left after f g l m n index offset cause played reads line = tt
+refused_whole reader now next player then (Some bytes) None after f g l m n index offset cause played reads line = absurd played.so_far
+refused_whole reader now next player then (Some bytes) (Some rest) after f g l m n index offset cause played reads line =
+    last_whole then (tail_of now rest) _ (Malformed (record { index = index; offset = offset; cause = cause })) f g l m n played.so_far reads line
+
 pub end_front : (reader now next : Progress) (player then : Playing) (known left after f g l m n : Option (List ℕ)) → IsPlayed reader now player then known left f g l m
     → IfSome left (λ rest. Reads now rest (Ok End) next after) → AppendsFront m n (end_line then.index) → IfSome known (λ bytes. AppendsFront l n (output_of_tail player (tail_of reader bytes)).log)
 end_front reader now next player then None left after f g l m n played reads line = tt

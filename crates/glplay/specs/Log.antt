@@ -1,5 +1,5 @@
 -- The lines of the log.
-use Rattle.std.specs.Prelude.{ℕ, ◌+◌, ◌/◌, ◌%◌, List, [], ◌∷◌, ◌++◌, nat_lt, if◌then◌else◌, codes, decimal}
+use Rattle.std.specs.Prelude.{ℕ, ◌+◌, ◌/◌, ◌%◌, List, [], ◌∷◌, ◌++◌, Option, Some, None, nat_lt, if◌then◌else◌, codes, decimal}
 use Rattle.gl_tokens.specs.declared.gl_error.GlError.{GlError}
 use Rattle.gl_tokens.specs.GlError.{code_of}
 use Rattle.trace_reader.specs.declared.cause.Cause.{Cause}
@@ -17,6 +17,11 @@ hex4 code = hex_digit (code / 4096 % 16) ∷ hex_digit (code / 256 % 16) ∷ hex
 -- the command of this record makes this error
 abbrev pub raise_line : ℕ → GlError → List ℕ
 raise_line index error = codes "raise " ++ decimal index ++ codes " 0x" ++ hex4 (code_of error) ++ codes "\n"
+
+-- the line of an error, where there is one
+abbrev pub raise_lines : ℕ → Option GlError → List ℕ
+raise_lines index None = []
+raise_lines index (Some error) = raise_line index error
 
 -- the trace was read to its end; so many records stand before End
 abbrev pub end_line : ℕ → List ℕ

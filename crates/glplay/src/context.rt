@@ -1,9 +1,11 @@
 ghost use Rattle.std.specs.Prelude.{◌≡◌, map, option_to_list};
-ghost use Rattle.glplay.specs.Context.{opening_context, with_clear_color, has_other_bits as has_others, clear_items, in_unit as unit_of};
+ghost use Rattle.glplay.specs.Context.{opening_context, with_clear_color, with_color, current_values, has_other_bits as has_others, clear_items, in_unit as unit_of};
 ghost use Rattle.gl_records.specs.declared.item.Item.TheVariants.{Clear};
 
 use fx_arith::{Fx, c8, clamp};
-use gl_records::{ClearItem, PixelBox, Size};
+use gl_records::{Attribs, ClearItem, PixelBox, Size};
+use std::alloc::Global;
+use vertex_fetch::{Arrays, Regions};
 
 /// The bits of a Clear's mask (OpenGL ES 1.1.12, 4.2.3).
 const COLOR_BIT: u32 = 0x4000;
@@ -18,18 +20,27 @@ const CLEAR_BITS: u32 = COLOR_BIT | DEPTH_BIT | STENCIL_BIT;
 const GREATEST_DEPTH: u32 = 16777215;
 
 /// The state of the commands.
-#[derive(Clone, Copy, Debug)]
+#[derive(Drop)]
 pub struct Context {
-    /// R G B A, each 0 to 1.
+    /// The colour of Clears, R G B A, each 0 to 1.
     pub clear_color: [Fx; 4],
+    /// The colour of vertices, R G B A, as it was given.
+    pub color: [Fx; 4],
+    /// Where the vertex arrays lie, and which of them are on.
+    pub arrays: Arrays,
+    /// The bytes that the arrays are read from.
+    pub regions: Regions,
 }
 
 impl Context {
-    pub fn new() -> Context
+    pub fn new(alloc: Global) -> Context
         ensures { result ≡ opening_context }
     {
         Context {
             clear_color: [Fx::ZERO; 4],
+            color: [Fx::ONE; 4],
+            arrays: Arrays::new(),
+            regions: Regions::new(alloc),
         }
     }
 
@@ -39,6 +50,26 @@ impl Context {
     {
         let color = [in_unit(red), in_unit(green), in_unit(blue), in_unit(alpha)];
         self.clear_color = color;
+    }
+
+    /// Color. The components aren't clamped before a vertex takes them.
+    pub fn set_color(&mut self, red: Fx, green: Fx, blue: Fx, alpha: Fx)
+        ensures { self.new ≡ with_color self.old red green blue alpha }
+    {
+        self.color = [red, green, blue, alpha];
+    }
+
+    /// What a vertex takes where no array gives it.
+    pub fn current_values(&self) -> Attribs
+        ensures { result ≡ current_values self.now }
+    {
+        let coordinates = [Fx::ZERO, Fx::ZERO, Fx::ZERO, Fx::ONE];
+        Attribs {
+            pos: coordinates,
+            normal: [Fx::ZERO, Fx::ZERO, Fx::ONE],
+            color: self.color,
+            tex: [coordinates; 2],
+        }
     }
 
     /// The Clear that this mask asks for, or none where it names no buffer.
@@ -71,7 +102,8 @@ pub fn has_other_bits(mask: u32) -> bool
     mask & CLEAR_BITS != mask
 }
 
-fn in_unit(component: Fx) -> Fx
+/// A component of a colour, clamped to 0 to 1.
+pub fn in_unit(component: Fx) -> Fx
     ensures { result ≡ unit_of component }
 {
     clamp(component, Fx::ZERO, Fx::ONE)

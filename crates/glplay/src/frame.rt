@@ -4,15 +4,15 @@ ghost use Rattle.gl_records.specs.Surface.{row_bytes, surface_bytes};
 ghost use Rattle.outer_io.specs.Faults.{Rose};
 ghost use Rattle.glplay.specs.Answer.{Puts};
 ghost use Rattle.glplay.specs.Frames.{frame_header as header_of, frame};
-ghost use Rattle.glplay.specs.Rows.{rows_of};
+ghost use Rattle.whole_surface.specs.Rows.{rows_of};
 
 use crate::fault::Fault;
 use crate::output::put;
-use crate::surface::{Row, Surface};
 use byteorder::{ByteOrder, LittleEndian};
 use gl_records::Size;
 use outer_io::Sink;
 use std::alloc::{AllocError, Global};
+use whole_surface::{Row, Surface};
 
 /// Puts a frame: its twelve bytes, and then row after row from the bottom.
 pub fn put_frame<F: Sink>(

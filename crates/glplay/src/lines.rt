@@ -2,7 +2,7 @@
 ghost use Rattle.std.specs.Prelude.{◌≡◌, ◌≢◌, ◌/◌, ◌%◌, ◌<◌, ◌≤◌, Err, IfOk};
 ghost use Rattle.outer_io.specs.Faults.{Rose};
 ghost use Rattle.glplay.specs.Answer.{Puts};
-ghost use Rattle.glplay.specs.Log.{hex_digit as hex_digit_of, hex4 as hex4_of, raise_line as raise_line_of, end_line as end_line_of, refused_line as refused_line_of, cause_name};
+ghost use Rattle.glplay.specs.Log.{hex_digit as hex_digit_of, hex4 as hex4_of, raise_line as raise_line_of, raise_lines, end_line as end_line_of, refused_line as refused_line_of, cause_name};
 
 use crate::fault::Fault;
 use crate::output::put;
@@ -25,6 +25,24 @@ pub fn put_raise<L: Sink>(
     ensures faults { L.faults log.old ≤ L.faults log.new }
 {
     put(log, &raise_line(alloc, index, error)?)
+}
+
+/// The line of an error, where there is one.
+pub fn put_raised<L: Sink>(
+    alloc: Global,
+    log: &mut L,
+    index: u32,
+    error: Option<GlError>,
+) -> Result<(), Fault>
+    ensures lines { Puts result (L.held log.old) (L.held log.new) (raise_lines index error) }
+    ensures write_fault { result ≡ Err Fault.WriteFault → Rose (L.faults log.old) (L.faults log.new) }
+    ensures no_read_fault { result ≢ Err Fault.ReadFault }
+    ensures faults { L.faults log.old ≤ L.faults log.new }
+{
+    match error {
+        Some(error) => put_raise(alloc, log, index, error),
+        None => Ok(()),
+    }
 }
 
 /// `end COUNT`: the trace was read to its end, and so many records stand before End.

@@ -3,7 +3,7 @@ use Rattle.std.proofs.Common.{◌≡◌, ◌≤◌, ◌<◌, ◌+◌, ◌*◌, �
 use Rattle.std.specs.List.{range_with_len}
 use Rattle.std.specs.Int.{w16, w32, from_le_bytes}
 use Rattle.std.proofs.lemmas.Bool.{cases_lt}
-use Rattle.std.proofs.lemmas.List.{get_or-drop, get_or-take, get_or_past, length-take, length-drop, take-append-drop, drop-drop, nil_from_length}
+use Rattle.std.proofs.lemmas.List.{get_or-drop, get_or-take, get_or_past, get_or_default, length-take, length-drop, take-append-drop, drop-drop, nil_from_length}
 use Rattle.std.proofs.lemmas.Nat.{le_bytes_2, le_bytes_4}
 use Rattle.byteorder.specs.Endian.{little_from, little_number, little_bytes}
 use Rattle.byteorder.specs.Numbers.{little_from-take, little_from-lt, little_number-reads_back}
@@ -20,6 +20,9 @@ AreBytes-from bytes each i =
       | inl lt ↦ each i 0 lt
       | inr le ↦ rw (get_or_past bytes i 0 le) (omega arith)
     ]
+
+pub IsBytes-from : (bytes : List ℕ) → AreBytes bytes → IsBytes bytes
+IsBytes-from bytes fits i d within = rw (get_or_default bytes i d 0 within) (fits i)
 
 pub AreBytes-drop : (n : ℕ) (bytes : List ℕ) → AreBytes bytes → AreBytes (drop n bytes)
 AreBytes-drop n bytes fits i = rw get_or-drop (fits (n + i))

@@ -1,3 +1,4 @@
+pub mod Bodies
 pub mod Bytes
 pub mod Commands
 pub mod Filled

@@ -8,7 +8,7 @@ use Rattle.byteorder.specs.Endian.{little_from, little_number, IsRead}
 use Rattle.gl_records.specs.declared.rec.Rec.{Rec}
 use Rattle.trace_reader.specs.declared.record.Head.{Head}
 use Rattle.trace_reader.specs.declared.record.Stop.{Stop}
-use Rattle.trace_reader.specs.declared.record.Stop.TheVariants.{Malformed, Failed}
+use Rattle.trace_reader.specs.declared.record.Stop.TheVariants.{Malformed, Failed, NoMemory}
 use Rattle.trace_reader.specs.Numbers.{words}
 use Rattle.trace_reader.specs.Steps.{HeadRead, WordsRead, BodyRead, RecordRead}
 use Rattle.trace_reader.specs.Trace.{record_at}
@@ -72,3 +72,4 @@ record_read (Some bytes) (Some rest) left offset head (Err (Malformed cause)) be
     let same : rest ≡ drop 8 bytes = cc in
     rw (begun.0, ← same) done
 record_read (Some bytes) (Some rest) left offset head (Err Failed) begun done = tt
+record_read (Some bytes) (Some rest) left offset head (Err NoMemory) begun done = rw begun.0 done

@@ -11,14 +11,15 @@ use Rattle.byteorder.specs.Numbers.{little_number-reads_back}
 use Rattle.gl_records.specs.declared.rec.Rec.{Rec}
 use Rattle.gl_records.specs.declared.rec.Rec.TheVariants.{End}
 use Rattle.gl_records.specs.declared.size.Size.{Size}
+use Rattle.gl_records.specs.Size.{IsSize}
 use Rattle.trace_reader.specs.declared.cause.Cause.{Cause}
 use Rattle.trace_reader.specs.declared.cause.Cause.TheVariants.{Short, BadMagic, BadSize, NoEnd, BadZero, TooLong, BadLength}
-use Rattle.trace_reader.specs.declared.table.Shape.{Shape}
-use Rattle.trace_reader.specs.Numbers.{number_at, words}
+use Rattle.trace_reader.specs.Numbers.{number_at}
 use Rattle.trace_reader.specs.Outcome.{IsTail, IsOutcome}
 use Rattle.trace_reader.specs.Spelling.{Command, command, command_bytes, record_bytes, records_bytes, spell, FitsWords, IsPlain, Fits, IsBytes}
-use Rattle.trace_reader.specs.Table.{row, allows}
-use Rattle.trace_reader.specs.Trace.{Ended, Readable, Head, head, body, record_of, record_at, header, is_side, IsSize, trace_of, greatest_payload, greatest_trace}
+use Rattle.trace_reader.specs.Table.{Layout, row, allows, record_from}
+use Rattle.trace_reader.specs.Trace.{Ended, Readable, Head, head, body, record_of, record_at, header, is_side, trace_of, greatest_payload, greatest_trace}
+use Rattle.trace_reader.proofs.Bodies.{body-passes}
 use Rattle.trace_reader.proofs.Bytes.{AreBytes, AreBytes-from, AreBytes-drop, AreBytes-take, two_bytes, four_bytes}
 use Rattle.trace_reader.proofs.Commands.{row-is_command, command-is_read}
 use Rattle.trace_reader.proofs.Tails.{refused_if-ok, ok_is, record_at-taken}
@@ -37,13 +38,6 @@ head-command written rest opcode_fits length_fits =
     head-fields written.opcode (length written.payload) (command_bytes written ++ rest) (omega arith)
     (little_number-reads_back 2 written.opcode (little_bytes 2 0 ++ little_bytes 4 (length written.payload) ++ written.payload ++ rest) opcode_fits) refl (little_number-reads_back 4 (length written.payload) (written.payload ++ rest) length_fits)
 
-body-passes : (offset len : ℕ) (rest : List ℕ) (shape : Shape) (rec : Rec) → len ≤ greatest_payload → offset + 8 + len ≤ greatest_trace → allows shape len ≡ true → len ≤ length rest → body offset len rest (Some (shape, rec)) ≡ Ok (rec, 8 + len)
-body-passes offset len rest shape rec short ends allowed whole =
-    let a : ltb greatest_payload len ≡ false = le-ltb _ _ short in
-    let b : ltb greatest_trace (offset + 8 + len) ≡ false = le-ltb _ _ ends in
-    let c : ltb (length rest) len ≡ false = le-ltb _ _ whole in
-    rw (a, b, allowed, c) refl
-
 pub record_at-record_bytes : (offset : ℕ) (rec : Rec) (rest : List ℕ) → FitsWords rec → offset + length (record_bytes rec) ≤ greatest_trace → record_at offset (record_bytes rec ++ rest) ≡ Ok (rec, length (record_bytes rec))
 record_at-record_bytes offset rec rest fits ends =
     let is = command-is_read rec fits in
@@ -51,13 +45,13 @@ record_at-record_bytes offset rec rest fits ends =
     let short : length payload ≤ greatest_payload = is.length_fits in
     let begun = head-command (command rec) rest is.opcode_fits (omega arith) in
     let own : take (length payload) (payload ++ rest) ≡ payload = take_at payload rest (length payload) refl in
-    let passes : body offset (length payload) (payload ++ rest) (Some (is.shape, rec)) ≡ Ok (rec, 8 + length payload) =
-    body-passes offset (length payload) (payload ++ rest) is.shape rec short (omega arith) is.allowed (omega (arith, length-append payload rest)) in
-    let found : row (command rec).opcode (words (take (length payload) (payload ++ rest))) ≡ Some (is.shape, rec) = ap (λ (own : List ℕ). row (command rec).opcode (words own)) own ∙ is.reads in
+    let passes = body-passes offset (length payload) (payload ++ rest) is.layout short (omega arith) is.allowed (omega (arith, length-append payload rest)) in
+    let made : record_from is.layout (take (length payload) (payload ++ rest)) ≡ rec = ap (record_from is.layout) own ∙ is.makes in
     let sum : 8 + length payload ≡ length (record_bytes rec) = omega arith in
     ap (record_of offset (payload ++ rest)) begun
-    ∙ ap (body offset (length payload) (payload ++ rest)) found
+    ∙ ap (body offset (length payload) (payload ++ rest)) is.reads
     ∙ passes
+    ∙ ap (λ (read : Rec). Ok (read, 8 + length payload)) made
     ∙ ap (λ (n : ℕ). Ok (rec, n)) sum
 
 pub tail-records_bytes : (index offset : ℕ) (records : List Rec) → All IsPlain records → offset + length (records_bytes records) ≤ greatest_trace → IsTail index offset (records_bytes records) records Ended
@@ -108,7 +102,7 @@ pub record IsSpelled (offset : ℕ) (bytes : List ℕ) (found : Rec × ℕ) : Ty
 written_as : (written : Command) (opcode : ℕ) (payload : List ℕ) → opcode ≡ written.opcode → payload ≡ written.payload → command_bytes (record { opcode = opcode; payload = payload }) ≡ command_bytes written
 written_as written opcode payload p q = rw (p, q) refl
 
-body-is : (offset : ℕ) (bytes : List ℕ) (begun : Head) (read : Option (Shape × Rec)) (found : Rec × ℕ) → AreBytes bytes → head bytes ≡ Ok begun → row begun.opcode (words (take begun.length (drop 8 bytes))) ≡ read
+body-is : (offset : ℕ) (bytes : List ℕ) (begun : Head) (read : Option Layout) (found : Rec × ℕ) → AreBytes bytes → head bytes ≡ Ok begun → row begun.opcode ≡ read
     → body offset begun.length (drop 8 bytes) read ≡ Ok found → IsSpelled offset bytes found
 body-is offset bytes begun None found fits front here passed = absurd cc
 body-is offset bytes begun (Some read) found fits front here passed =
@@ -117,22 +111,22 @@ body-is offset bytes begun (Some read) found fits front here passed =
     let payload : List ℕ = take len rest in
     let a = refused_if-ok (ltb greatest_payload len || ltb greatest_trace (offset + 8 + len)) TooLong _ found passed in
     let b = refused_if-ok (not (allows read.0 len)) BadLength _ found a.1 in
-    let c = refused_if-ok (ltb (length rest) len) Short (Ok (read.1, 8 + len)) found b.1 in
+    let c = refused_if-ok (ltb (length rest) len) Short (Ok (record_from read payload, 8 + len)) found b.1 in
     let short = or_parts (ltb greatest_payload len) (ltb greatest_trace (offset + 8 + len)) a.0 in
     let ends : offset + 8 + len ≤ greatest_trace = ltb-false _ _ short.1 in
     let whole : len ≤ length rest = ltb-false _ _ c.0 in
-    let same = ok_is (read.1, 8 + len) found c.1 in
+    let same = ok_is (record_from read payload, 8 + len) found c.1 in
     let len_is : length payload ≡ len = length-take-le len rest whole in
     let allowed : allows read.0 (length payload) ≡ true = rw len_is (not-false _ b.0) in
-    let is = row-is_command begun.opcode payload read (AreBytes-take len rest (AreBytes-drop 8 bytes fits)) here allowed in
+    let is = row-is_command begun.opcode payload read (AreBytes-take len rest (AreBytes-drop 8 bytes fits)) (rw len_is (ltb-false _ _ short.0)) here allowed in
     let first = (head-is bytes begun fits front).1 in
     let behind : rest ≡ payload ++ drop (8 + len) bytes = sym (take-append-drop len rest) ∙ ap (λ (later : List ℕ). payload ++ later) (drop-drop len 8 bytes) in
     let parts : bytes ≡ command_bytes (record { opcode = begun.opcode; payload = payload }) ++ drop (8 + len) bytes =
     first
     ∙ ap (λ (later : List ℕ). little_bytes 2 begun.opcode ++ little_bytes 2 0 ++ little_bytes 4 len ++ later) behind
     ∙ ap (λ (n : ℕ). little_bytes 2 begun.opcode ++ little_bytes 2 0 ++ little_bytes 4 n ++ (payload ++ drop (8 + len) bytes)) (sym len_is) in
-    let spelled : IsSpelled offset bytes (read.1, 8 + len) = record {
-      parts = parts ∙ ap (λ (own : List ℕ). own ++ drop (8 + len) bytes) (written_as (command read.1) begun.opcode payload is.opcode_is is.payload_is);
+    let spelled : IsSpelled offset bytes (record_from read payload, 8 + len) = record {
+      parts = parts ∙ ap (λ (own : List ℕ). own ++ drop (8 + len) bytes) (written_as (command (record_from read payload)) begun.opcode payload is.opcode_is is.payload_is);
       fits = is.fits;
       ends = omega arith;
     } in

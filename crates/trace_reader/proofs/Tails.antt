@@ -1,16 +1,15 @@
 -- What the bytes are from a place on, unfolded by one record.
-use Rattle.std.proofs.Common.{◌≡◌, ◌≢◌, ◌≤◌, ◌+◌, ℕ, zero, suc, Bool, true, false, not, ◌||◌, eqb, ltb, List, [], ◌∷◌, length, drop, Option, Some, None, IfSome, Result, Ok, Err, refl, sym, ap, ◌∙◌, arith}
+use Rattle.std.proofs.Common.{◌≡◌, ◌≢◌, ◌≤◌, ◌+◌, ℕ, zero, suc, Bool, true, false, not, ◌||◌, eqb, ltb, List, [], ◌∷◌, length, take, drop, Option, Some, None, IfSome, Result, Ok, Err, refl, sym, ap, ◌∙◌, arith}
 use Rattle.std.proofs.lemmas.Bool.{ltb-false, eq-eqb, ne_eqb}
 use Rattle.std.proofs.lemmas.List.{length-drop, nil_from_length}
 use Rattle.gl_records.specs.declared.rec.Rec.{Rec}
 use Rattle.gl_records.specs.declared.rec.Rec.TheVariants.{End}
 use Rattle.trace_reader.specs.declared.cause.Cause.{Cause}
 use Rattle.trace_reader.specs.declared.cause.Cause.TheVariants.{Short, NoEnd, TooLong, BadLength, Trailing}
-use Rattle.trace_reader.specs.declared.table.Shape.{Shape}
 use Rattle.trace_reader.specs.declared.record.Stop.TheVariants.{Malformed}
 use Rattle.trace_reader.specs.Reading.{ReadsAt}
 use Rattle.trace_reader.specs.Steps.{RecordRead}
-use Rattle.trace_reader.specs.Table.{allows}
+use Rattle.trace_reader.specs.Table.{Layout, allows, record_from}
 use Rattle.trace_reader.specs.Trace.{greatest_payload, greatest_trace, Head, Tail, refused_if, head, body, record_of, record_at, is_end, ended, refused, with_record, after_record, tail_within, tail_at}
 
 -- a condition that did not decide
@@ -30,14 +29,14 @@ pub record IsTaken (n : ℕ) (bytes : List ℕ) : Type 0 where
   pub some : 8 ≤ n
   pub within : n ≤ length bytes
 
-body-taken : (offset len : ℕ) (bytes : List ℕ) (found : Option (Shape × Rec)) (x : Rec × ℕ) → 8 ≤ length bytes → body offset len (drop 8 bytes) found ≡ Ok x → IsTaken x.1 bytes
+body-taken : (offset len : ℕ) (bytes : List ℕ) (found : Option Layout) (x : Rec × ℕ) → 8 ≤ length bytes → body offset len (drop 8 bytes) found ≡ Ok x → IsTaken x.1 bytes
 body-taken offset len bytes None x long e = absurd cc
 body-taken offset len bytes (Some found) x long e =
     let a = refused_if-ok (ltb greatest_payload len || ltb greatest_trace (offset + 8 + len)) TooLong _ x e in
     let b = refused_if-ok (not (allows found.0 len)) BadLength _ x a.1 in
-    let c = refused_if-ok (ltb (length (drop 8 bytes)) len) Short (Ok (found.1, 8 + len)) x b.1 in
+    let c = refused_if-ok (ltb (length (drop 8 bytes)) len) Short (Ok (record_from found (take len (drop 8 bytes)), 8 + len)) x b.1 in
     let fits : len ≤ length (drop 8 bytes) = ltb-false _ _ c.0 in
-    let same = ok_is (found.1, 8 + len) x c.1 in
+    let same = ok_is (record_from found (take len (drop 8 bytes)), 8 + len) x c.1 in
     let n : 8 + len ≡ x.1 = ap (λ (y : Rec × ℕ). y.1) same in
     record { some = omega arith; within = omega (arith, length-drop 8 bytes) }
 

@@ -7,6 +7,6 @@ use Rattle.byteorder.specs.Endian.{little_from, little_number}
 abbrev pub number_at : ℕ → ℕ → List ℕ → ℕ
 number_at n k bytes = little_from k n bytes
 
--- the first sixteen words of 32 bits of a payload; a byte past its end is 0
+-- the first sixteen words of 32 bits of these bytes; a byte past their end is 0
 abbrev pub words : List ℕ → List ℕ
-words payload = map (λ k. little_number 4 (drop (4 * k) payload)) (range_with_len 0 16)
+words bytes = map (λ k. little_number 4 (drop (4 * k) bytes)) (range_with_len 0 16)

@@ -1,5 +1,5 @@
 -- A trace that is read record by record: what an answer says of what the trace still has.
-use Rattle.std.specs.Prelude.{◌≡◌, ℕ, ◌+◌, List, [], Option, Some, Result, Ok, Err, IsSomeAnd, if◌then◌else◌, MatchBool}
+use Rattle.std.specs.Prelude.{◌≡◌, ℕ, ◌+◌, true, List, [], Option, Some, Result, Ok, Err, IsSomeAnd, IsOkAnd, if◌then◌else◌, MatchBool}
 use Rattle.gl_records.specs.declared.rec.Rec.{Rec}
 use Rattle.gl_records.specs.declared.size.Size.{Size}
 use Rattle.trace_reader.specs.declared.cause.ReadEnd.{ReadEnd}
@@ -7,7 +7,8 @@ use Rattle.trace_reader.specs.declared.cause.ReadEnd.TheVariants.{Malformed, Rea
 use Rattle.trace_reader.specs.declared.stage.Stage.{Stage}
 use Rattle.trace_reader.specs.declared.stage.Stage.TheVariants.{Reading, Ended, Stopped}
 use Rattle.trace_reader.specs.Progress.{Progress}
-use Rattle.trace_reader.specs.Trace.{Tail, BadHeader, Readable, trace_of, tail_at, ended, refused, with_record, is_end}
+use Rattle.trace_reader.specs.Trace.{Tail, BadHeader, Readable, trace_of, tail_at, head, ended, refused, with_record, is_end}
+use Rattle.trace_reader.specs.Table.{row, has_piece}
 
 -- what the trace has from a reader's place on, where these bytes are left
 abbrev pub tail_of : Progress → List ℕ → Tail
@@ -23,6 +24,14 @@ abbrev pub EndsAt : Tail → ReadEnd → Type 0
 EndsAt tail (Malformed index offset cause) = tail ≡ refused index offset cause
 EndsAt tail ReadFault = Unit {0}
 EndsAt tail NoMemory = Unit {0}
+
+-- the opcode's command brings a piece
+abbrev pub OpcodeBringsPiece : ℕ → Type 0
+OpcodeBringsPiece opcode = IsSomeAnd (row opcode) (λ layout. has_piece layout.0 ≡ true)
+
+-- the bytes begin with a record's first eight, and its command brings a piece
+abbrev pub BringsPiece : List ℕ → Type 0
+BringsPiece bytes = IsOkAnd (head bytes) (λ found. OpcodeBringsPiece found.opcode)
 
 -- a reader of bytes answers the first record of what the trace has, or how it ends; `left` is what the source
 -- has afterwards

@@ -1,15 +1,14 @@
 -- The trace format: every list of bytes has one outcome. Each condition that makes a trace malformed stands
 -- in its place in the order; the first that holds decides.
-use Rattle.std.specs.Prelude.{ℕ, zero, suc, ◌+◌, ◌^◌, ◌≤◌, Bool, true, false, not, ◌&&◌, ◌||◌, ◌==◌, nat_eq, nat_lt, nat_le, List, [], ◌∷◌, length, take, drop, Option, Some, None, Result, Ok, Err, if◌then◌else◌, codes}
+use Rattle.std.specs.Prelude.{ℕ, zero, suc, ◌+◌, ◌^◌, Bool, true, false, not, ◌&&◌, ◌||◌, ◌==◌, nat_eq, nat_lt, nat_le, List, [], ◌∷◌, length, take, drop, Option, Some, None, Result, Ok, Err, if◌then◌else◌, codes}
 use Rattle.std.specs.List.{starts_with}
 use Rattle.gl_records.specs.declared.rec.Rec.{Rec}
 use Rattle.gl_records.specs.declared.rec.Rec.TheVariants.{End}
 use Rattle.gl_records.specs.declared.size.Size.{Size}
 use Rattle.trace_reader.specs.declared.cause.Cause.{Cause}
 use Rattle.trace_reader.specs.declared.cause.Cause.TheVariants.{Short, BadMagic, BadSize, NoEnd, BadZero, UnknownOp, TooLong, BadLength, Trailing}
-use Rattle.trace_reader.specs.declared.table.Shape.{Shape}
-use Rattle.trace_reader.specs.Numbers.{number_at, words}
-use Rattle.trace_reader.specs.Table.{row, allows}
+use Rattle.trace_reader.specs.Numbers.{number_at}
+use Rattle.trace_reader.specs.Table.{Layout, row, allows, record_from}
 
 -- where a trace is malformed: the whole records before that place, the bytes before it, and why
 pub record Refusal : Type 0 where
@@ -44,12 +43,9 @@ greatest_payload = 2 ^ 24
 abbrev pub greatest_trace : ℕ
 greatest_trace = 2 ^ 28
 
+-- a side that a surface may have, in pixels
 abbrev pub is_side : ℕ → Bool
 is_side side = nat_le 1 side && nat_le side 1024
-
--- sides that a surface may have, in pixels
-abbrev pub IsSize : Size → Type 0
-IsSize size = (1 ≤ size.w) × (size.w ≤ 1024) × (1 ≤ size.h) × (size.h ≤ 1024)
 
 -- the header: GLT1, the width and the height
 abbrev pub header : List ℕ → Result Size Cause
@@ -76,18 +72,18 @@ head bytes =
     Ok (record { opcode = number_at 2 0 bytes; length = number_at 4 4 bytes }))))
 
 -- the record of a row of the table and how many bytes it takes, where `rest` follows its first eight
-abbrev pub body : ℕ → ℕ → List ℕ → Option (Shape × Rec) → Result (Rec × ℕ) Cause
+abbrev pub body : ℕ → ℕ → List ℕ → Option Layout → Result (Rec × ℕ) Cause
 body offset len rest None = Err UnknownOp
 body offset len rest (Some found) =
     refused_if (nat_lt greatest_payload len || nat_lt greatest_trace (offset + 8 + len)) TooLong (
     refused_if (not (allows found.0 len)) BadLength (
     refused_if (nat_lt (length rest) len) Short (
-    Ok (found.1, 8 + len))))
+    Ok (record_from found (take len rest), 8 + len))))
 
 -- the record that this head begins
 abbrev pub record_of : ℕ → List ℕ → Result Head Cause → Result (Rec × ℕ) Cause
 record_of offset rest (Err cause) = Err cause
-record_of offset rest (Ok found) = body offset found.length rest (row found.opcode (words (take found.length rest)))
+record_of offset rest (Ok found) = body offset found.length rest (row found.opcode)
 
 -- the record that the bytes begin with, and how many bytes it takes; offset bytes stand before it in the trace
 abbrev pub record_at : ℕ → List ℕ → Result (Rec × ℕ) Cause

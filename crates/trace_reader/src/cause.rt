@@ -39,7 +39,7 @@ pub enum ReadEnd {
     },
     /// The source failed.
     ReadFault,
-    /// Memory ran out.
+    /// There is no memory for a record's piece.
     NoMemory,
 }
 

@@ -14,7 +14,7 @@ pub fn one_outcome()
 
 /// A size and records that have a spelling are read back from it, and from no other bytes.
 pub fn spelling_reads_back()
-    ensures bytes { (size : Size) (records : List Rec) → IsBytes (spell size records) }
+    ensures bytes { (size : Size) (records : List Rec) → Fits size records → IsBytes (spell size records) }
     ensures back { (size : Size) (records : List Rec) → Fits size records
         → trace_of (spell size records) ≡ Readable size (record { records = records; ending = Ended }) }
     ensures only { (bytes : List ℕ) (size : Size) (records : List Rec) → IsBytes bytes

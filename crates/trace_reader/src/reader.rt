@@ -1,8 +1,9 @@
 ghost use Rattle.std.specs.Prelude.{◌≡◌, ◌≢◌, ◌⊎◌, ◌+◌, ◌*◌, ◌^◌, ◌≤◌, [], false, Some, Ok, Err, IfOk, IfErr, IfSome, MatchBool};
 ghost use Rattle.outer_io.specs.Faults.{Rose};
 ghost use Rattle.trace_reader.specs.Progress.{at_first_record};
-ghost use Rattle.trace_reader.specs.Trace.{is_end, is_side as is_side_length, IsSize};
-ghost use Rattle.trace_reader.specs.Reading.{Reads, ReadsAt, Starts, stage_after};
+ghost use Rattle.gl_records.specs.Size.{IsSize};
+ghost use Rattle.trace_reader.specs.Trace.{is_end, is_side as is_side_length};
+ghost use Rattle.trace_reader.specs.Reading.{BringsPiece, Reads, ReadsAt, Starts, stage_after};
 
 use crate::cause::{Cause, ReadEnd};
 use crate::fill::fill;
@@ -17,9 +18,11 @@ use std::marker::Model;
 /// The greatest side of a surface, in pixels.
 const GREATEST_SIDE: u16 = 1024;
 
-/// Reads a trace record by record. It knows how far it has come, and keeps its last answer.
+/// Reads a trace record by record. It knows how far it has come, and keeps its last answer: End or an error
+/// is answered again by each later call.
 #[derive(Drop)]
 pub struct Reader {
+    alloc: Global,
     index: u32,
     offset: u32,
     stage: Stage,
@@ -38,8 +41,9 @@ impl Model for Reader {
 }
 
 impl Reader {
-    /// Reads the header. A refusal has index 0 and offset 0.
-    pub fn start<S: Source>(_alloc: Global, source: &mut S) -> Result<(Reader, Size), ReadEnd>
+    /// Reads the header, of eight bytes. A refusal has index 0 and offset 0; the sides are 1 to 1024 pixels.
+    /// The allocator is kept for the pieces of the records. `ReadFault` where the source failed.
+    pub fn start<S: Source>(alloc: Global, source: &mut S) -> Result<(Reader, Size), ReadEnd>
         ensures trace { IfSome (S.rest source.old) (λ bytes. Starts bytes result (S.rest source.new)) }
         ensures begun { IfOk result (λ begun. begun.0 ≡ at_first_record) }
         ensures sides { IfOk result (λ begun. IsSize begun.1) }
@@ -60,6 +64,7 @@ impl Reader {
             return Err(bad_header(Cause::BadSize));
         }
         let reader = Reader {
+            alloc,
             index: 0,
             offset: 8,
             stage: Stage::Reading,
@@ -67,7 +72,9 @@ impl Reader {
         Ok((reader, Size { w, h }))
     }
 
-    /// Reads the next record. End is the last, and only where no byte follows it.
+    /// Reads the next record. End is the last, and only where no byte follows it. `Malformed` where the trace
+    /// is, with the record's index and the byte at which it begins, `ReadFault` where the source failed, and
+    /// `NoMemory` where the record has a piece for which there is none.
     pub fn next<S: Source>(&mut self, source: &mut S) -> Result<Rec, ReadEnd>
         ensures trace { self.old.stage ≡ Stage.Reading
             → IfSome (S.rest source.old) (λ bytes. Reads self.old bytes result self.new (S.rest source.new)) }
@@ -84,6 +91,8 @@ impl Reader {
 
         ensures read_fault { result ≡ Err ReadEnd.ReadFault
             → Rose (S.faults source.old) (S.faults source.new) ⊎ (self.old.stage ≡ Stage.Stopped ReadEnd.ReadFault) }
+        ensures memory { result ≡ Err ReadEnd.NoMemory
+            → IfSome (S.rest source.old) BringsPiece ⊎ (self.old.stage ≡ Stage.Stopped ReadEnd.NoMemory) }
         ensures faults { S.faults source.old ≤ S.faults source.new }
     {
         match self.stage {
@@ -91,7 +100,7 @@ impl Reader {
             Stage::Ended => return Ok(Rec::End),
             Stage::Stopped(end) => return Err(end),
         }
-        match read_at(self.index, self.offset, source) {
+        match read_at(self.alloc, self.index, self.offset, source) {
             Ok((Rec::End, _)) => {
                 self.stage = Stage::Ended;
                 Ok(Rec::End)
@@ -126,15 +135,21 @@ fn is_side(side: u16) -> bool
 }
 
 /// The record at a place and how many bytes it takes, or how the trace ends there.
-fn read_at<S: Source>(index: u32, offset: u32, source: &mut S) -> Result<(Rec, u32), ReadEnd>
+fn read_at<S: Source>(
+    alloc: Global,
+    index: u32,
+    offset: u32,
+    source: &mut S,
+) -> Result<(Rec, u32), ReadEnd>
     requires before { 8 * index ≤ offset }
     requires within { offset ≤ 2 ^ 28 }
     ensures trace { IfSome (S.rest source.old) (λ bytes. ReadsAt index offset bytes result (S.rest source.new)) }
     ensures longer { IfOk result (λ found. (8 ≤ found.1) × (offset + found.1 ≤ 2 ^ 28)) }
     ensures read_fault { result ≡ Err ReadEnd.ReadFault → Rose (S.faults source.old) (S.faults source.new) }
+    ensures memory { result ≡ Err ReadEnd.NoMemory → IfSome (S.rest source.old) BringsPiece }
     ensures faults { S.faults source.old ≤ S.faults source.new }
 {
-    let (rec, length) = match read_record(offset, source) {
+    let (rec, length) = match read_record(alloc, offset, source) {
         Ok(found) => found,
         Err(Stop::Malformed(cause)) => {
             return Err(ReadEnd::Malformed {
@@ -144,6 +159,7 @@ fn read_at<S: Source>(index: u32, offset: u32, source: &mut S) -> Result<(Rec, u
             });
         }
         Err(Stop::Failed) => return Err(ReadEnd::ReadFault),
+        Err(Stop::NoMemory) => return Err(ReadEnd::NoMemory),
     };
     match rec {
         Rec::End => {

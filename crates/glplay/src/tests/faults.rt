@@ -121,6 +121,13 @@ fn each_call_fails_in_turn(rt: HostRuntime) -> Result<(), Fail> {
     two_frames.swap()?;
     two_frames.end()?;
     fail_in_turn(&rt, "play", &two_frames.bytes)?;
+    let mut drawn = Trace::new(rt.alloc(), 3, 2)?;
+    drawn.places(&[-65536, -65536, 65536, -65536, -65536, 65536])?;
+    drawn.draw(4, 0, 3)?;
+    drawn.draw(7, 0, 3)?;
+    drawn.swap()?;
+    drawn.end()?;
+    fail_in_turn(&rt, "play", &drawn.bytes)?;
     let mut refused = Trace::new(rt.alloc(), 3, 2)?;
     refused.swap()?;
     refused.clear(1)?;

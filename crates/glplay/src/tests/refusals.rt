@@ -61,6 +61,8 @@ fn third_records(rt: HostRuntime) -> Result<(), Fail> {
         (b"\x65\0\0\0\x01\0\0\x01", b"refused 2 24 TooLong\n"),
         (b"\x65\0\0\0\xff\xff\xff\xff", b"refused 2 24 TooLong\n"),
         (b"\x65\0\0\0\0\0\0\x01", b"refused 2 24 BadLength\n"),
+        (b"\x10\0\0\0\0\0\0\x01", b"refused 2 24 Short\n"),
+        (b"\x10\0\0\0\x01\0\0\x01", b"refused 2 24 TooLong\n"),
         (
             b"\x65\0\0\0\x08\0\0\0\0\x40\0\0",
             b"refused 2 24 BadLength\n",
@@ -86,6 +88,34 @@ fn third_records(rt: HostRuntime) -> Result<(), Fail> {
             done.frames.bytes(),
             b"GLF1\0\0\0\0\x01\0\x01\0\0\0\0\0GLF1\x01\0\0\0\x01\0\x01\0\0\0\0\0".as_slice()
         );
+    }
+    Ok(())
+}
+
+/// A payload's length is looked at before the payload, of which there is nothing here.
+#[test]
+fn lengths_of_payloads(rt: HostRuntime) -> Result<(), Fail> {
+    // The opcode, the words of its payload, and whether more bytes may follow them.
+    for (opcode, words, or_more) in [
+        (0x10_u16, 1_u8, true),
+        (0x11, 5, false),
+        (0x15, 1, false),
+        (0x16, 1, false),
+        (0x19, 4, false),
+        (0x1d, 3, false),
+    ] {
+        let least = 4 * u32::from(words);
+        for length in 0..26_u32 {
+            let mut trace = Trace::new(rt.alloc(), 1, 1)?;
+            trace.head(opcode, length)?;
+            let done = play(&rt, &trace.bytes)?;
+            let line = if length == least || (or_more && length > least) {
+                b"refused 0 8 Short\n".as_slice()
+            } else {
+                b"refused 0 8 BadLength\n"
+            };
+            assert_eq!(rt; done.log.bytes(), line, "{opcode} {length}");
+        }
     }
     Ok(())
 }

@@ -1,7 +1,7 @@
 use Rattle.std.proofs.Common.{◌≤◌, take}
 use Rattle.std.specs.Io.KnownBytes.{Appends}
 use Rattle.gl_records.specs.Surface.{surface_bytes}
-use Rattle.glplay.specs.Rows.{rows_of}
+use Rattle.whole_surface.specs.Rows.{rows_of}
 use Rattle.glplay.proofs.frame.put_rows.Given as goal
 
 abbrev pub invariant-loop-row : goal.invariant-loop-row

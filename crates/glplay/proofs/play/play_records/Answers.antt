@@ -3,7 +3,7 @@ use Rattle.std.proofs.lemmas.Result.{err_from_is_err_and}
 use Rattle.trace_reader.specs.Trace.{is_end}
 use Rattle.trace_reader.proofs.Tails.{is_end-other}
 use Rattle.glplay.specs.Playing.{Playing, ran}
-use Rattle.glplay.proofs.SoFar.{nothing_played, played_more, run_front, end_front, refused_front}
+use Rattle.glplay.proofs.SoFar.{nothing_played, played_more, played_front, run_front, end_front, end_whole, refused_front, refused_whole}
 use Rattle.glplay.proofs.play.play_records.Goals as goal
 
 pub records-init : goal.records-init
@@ -32,6 +32,25 @@ returns-in_err-put_end-in-End-clause-log g c =
     let trace = rw c.in-End.is at c.in-Ok.ensures.trace in
     let line = rw c.index.ensures at c.in_err-put_end-in-End.ensures.line in
     rw p.1 (end_front _ _ c.next.new.self _ _ _ _ _ _ _ _ _ _ c.records.invariant.played (trace c.records.invariant.reading) line)
+
+pub returns-in-Err-Malformed-clause-log : goal.returns-in-Err-Malformed-clause-log
+returns-in-Err-Malformed-clause-log g c =
+    let at = c.in-Err-Malformed in
+    let trace = rw at.field-0-is at at.ensures.trace in
+    let left = g.S.Source.rest c.next.new.source in
+    refused_whole _ _ c.next.new.self _ _ _ _ left _ _ _ _ _ at.index at.offset at.cause c.records.invariant.played (trace c.records.invariant.reading) c.in_ok-put_refused-in-Err-Malformed.ensures.line
+
+pub returns-in-Err-NoMemory-clause-frames : goal.returns-in-Err-NoMemory-clause-frames
+returns-in-Err-NoMemory-clause-frames g c = let fronts = played_front _ _ _ _ _ _ _ _ _ _ c.records.invariant.played in fronts.0
+
+pub returns-in-Err-NoMemory-clause-log : goal.returns-in-Err-NoMemory-clause-log
+returns-in-Err-NoMemory-clause-log g c = let fronts = played_front _ _ _ _ _ _ _ _ _ _ c.records.invariant.played in fronts.1
+
+pub returns-in-End-clause-log : goal.returns-in-End-clause-log
+returns-in-End-clause-log g c =
+    let trace = rw c.in-End.is at c.in-Ok.ensures.trace in
+    let line = rw c.index.ensures at c.in_ok-put_end-in-End.ensures.line in
+    end_whole _ _ c.next.new.self _ _ _ _ _ _ _ _ _ _ c.records.invariant.played (trace c.records.invariant.reading) line
 
 pub records-preserved : goal.records-preserved
 records-preserved g c =

@@ -1,0 +1,5 @@
+pub mod Arrays
+pub mod Commands
+pub mod CoordinateType
+pub mod Fetch
+pub mod Regions

@@ -1,0 +1,5 @@
+pub mod Drawings
+pub mod PartLemmas
+pub mod RowLemmas
+pub mod ShadeLemmas
+pub mod WholeLemmas

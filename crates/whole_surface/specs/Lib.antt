@@ -1,0 +1,4 @@
+pub mod Flat
+pub mod Mean
+pub mod Parts
+pub mod Rows
