@@ -1,6 +1,1 @@
-pub mod Growth
-pub mod Refusals
-pub mod SoFar
-pub mod Steps
-pub mod Triangles
 pub mod WordLemmas

@@ -1,15 +1,13 @@
 //! The one call of the program.
 ghost use Rattle.std.specs.Prelude.{◌≡◌, ◌⊎◌, ◌≤◌, [], Some, IfSome};
 ghost use Rattle.outer_io.specs.Faults.{Rose};
-ghost use Rattle.glplay.specs.Answer.{IsAnswer, Grew, status_of};
-ghost use Rattle.glplay.specs.Immediate.{frames_of, log_of};
-ghost use Rattle.glplay.specs.Log.{bad_words_line};
+ghost use Rattle.immediate_renderer.specs.Answer.{IsAnswer, Grew, status_of};
+ghost use Rattle.immediate_renderer.specs.Immediate.{frames_of, log_of};
+ghost use Rattle.immediate_renderer.specs.Log.{bad_words_line};
 ghost use Rattle.glplay.specs.Words.{IsPlay};
 
-use crate::output::put;
-use crate::play::play;
-use crate::status::Status;
 use crate::words::is_play;
+use immediate_renderer::{Status, play, put};
 use outer_io::{Gate, Sink, Source};
 use std::alloc::Global;
 use std::thread::Threads;

@@ -1,8 +1,8 @@
 //! Faults of reading and of writing: what was written before them is kept.
 
 use super::support::{RED, Trace, run};
-use crate::status::Status;
 use crate::top_call::glplay;
+use immediate_renderer::Status;
 use outer_io::{FromRead, MemSink, MemSource, NoGate, ToWrite};
 use std::alloc::{AllocError, Global};
 use std::io;

@@ -1,7 +1,7 @@
 //! Frames and logs of traces that play to their end.
 
 use super::support::{RED, Trace, play, run};
-use crate::status::Status;
+use immediate_renderer::Status;
 use std::test::Fail;
 
 #[test]

@@ -1,7 +1,7 @@
 //! Malformed traces: the record, the byte and the cause.
 
 use super::support::{RED, Trace, play};
-use crate::status::Status;
+use immediate_renderer::Status;
 use std::test::Fail;
 
 #[test]

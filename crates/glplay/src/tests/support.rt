@@ -1,8 +1,8 @@
 //! Traces that are put together, and runs over memory.
 ghost use Rattle.std.specs.Prelude.{◌≤◌, length};
 
-use crate::status::Status;
 use crate::top_call::glplay;
+use immediate_renderer::Status;
 use outer_io::{NeverSink, NeverSource, NoGate};
 use std::alloc::{AllocError, Global};
 use std::thread::Threads;

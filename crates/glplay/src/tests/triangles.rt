@@ -1,7 +1,7 @@
 //! Frames of traces that draw triangles.
 
 use super::support::{FIXED, ONE, TRIANGLES, Trace, VERTEX_ARRAY, play};
-use crate::status::Status;
+use immediate_renderer::Status;
 use std::test::Fail;
 
 const GREEN: [i32; 4] = [0, ONE, 0, ONE];

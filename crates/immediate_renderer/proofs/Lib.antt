@@ -1,0 +1,5 @@
+pub mod Growth
+pub mod Refusals
+pub mod SoFar
+pub mod Steps
+pub mod Triangles
