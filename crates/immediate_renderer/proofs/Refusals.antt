@@ -4,7 +4,7 @@ use Rattle.gl_records.specs.declared.rec.Rec.{Rec}
 use Rattle.gl_records.specs.declared.rec.Rec.TheVariants.{End, Swap, ClientBytes, VertexPointer, EnableClientState, DisableClientState, Color4x, DrawArrays, ClearColorx, Clear}
 use Rattle.gl_tokens.specs.declared.gl_error.GlError.{GlError}
 use Rattle.vertex_fetch.specs.Arrays.{with_command}
-use Rattle.vertex_fetch.specs.Commands.{done}
+use Rattle.gl_tokens.specs.Commands.{done}
 use Rattle.vertex_fetch.specs.Regions.{with_region}
 use Rattle.vertex_fetch.specs.declared.arrays.Arrays.{Arrays}
 use Rattle.immediate_renderer.specs.Context.{has_other_bits}

@@ -7,7 +7,7 @@ use Rattle.gl_tokens.specs.declared.array_kind.ArrayKind.{ArrayKind}
 use Rattle.gl_tokens.specs.declared.array_kind.ArrayKind.TheVariants.{Vertex, Normal, Color, TextureCoord}
 use Rattle.gl_tokens.specs.declared.gl_error.GlError.{GlError}
 use Rattle.gl_tokens.specs.declared.gl_error.GlError.TheVariants.{InvalidValue}
-use Rattle.vertex_fetch.specs.Commands.{done, unless, known, ◌>>=◌}
+use Rattle.gl_tokens.specs.Commands.{done, unless, known, ◌>>=◌}
 use Rattle.vertex_fetch.specs.CoordinateType.{from_code_of}
 use Rattle.vertex_fetch.specs.Regions.{is_past_regions}
 use Rattle.vertex_fetch.specs.declared.arrays.Arrays.{Arrays}

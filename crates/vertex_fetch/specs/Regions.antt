@@ -2,7 +2,7 @@
 use Rattle.std.specs.Prelude.{ℕ, nat_lt, Bool, List, [], Option, Ok, replicate, slice_index_or, slice_set}
 use Rattle.gl_tokens.specs.declared.gl_error.GlError.{GlError}
 use Rattle.gl_tokens.specs.declared.gl_error.GlError.TheVariants.{InvalidValue}
-use Rattle.vertex_fetch.specs.Commands.{done, unless}
+use Rattle.gl_tokens.specs.Commands.{done, unless}
 
 -- no region holds a byte
 abbrev pub opening_regions : List (List ℕ)

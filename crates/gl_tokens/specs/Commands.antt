@@ -24,3 +24,7 @@ infixl 10 ◌>>=◌
 abbrev pub ◌>>=◌ : {A B : Type 0} → Result A GlError → (A → Result B GlError) → Result B GlError
 Ok value >>= next = next value
 Err error >>= next = Err error
+
+-- a command on a part of a state: the state with that part as the command leaves it, and the command's error
+abbrev pub within : {P S : Type 0} → (P → S) → P × Option GlError → S × Option GlError
+within put answer = (put answer.0, answer.1)
