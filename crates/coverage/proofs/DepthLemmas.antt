@@ -6,7 +6,8 @@ use Rattle.fx_arith.specs.Number.{clamp, floor_div}
 use Rattle.gl_records.specs.declared.prim.Primitive.{Primitive}
 use Rattle.gl_records.specs.declared.prim.VertexOut.{VertexOut}
 use Rattle.gl_records.specs.Coverage.{corner}
-use Rattle.gl_records.specs.Depth.{depth, greatest_depth}
+use Rattle.gl_records.specs.Depth.{depth}
+use Rattle.gl_records.specs.declared.pixel.TheConstants.{GREATEST_DEPTH}
 use Rattle.gl_records.specs.Valid.{IsCornerInRange}
 use Rattle.gl_records.specs.Weights.{weight, weighted_sum}
 
@@ -16,7 +17,7 @@ ones u v w = omega (arith, ints)
 pub depth-from : (p : Primitive) (x y sum total : ℤ) (r : ℕ)
     → sum ≡ (weight p 0 x y *ℤ (corner p 0).z) +ℤ (weight p 1 x y *ℤ (corner p 1).z) +ℤ (weight p 2 x y *ℤ (corner p 2).z)
     → total ≡ weight p 0 x y +ℤ weight p 1 x y +ℤ weight p 2 x y
-    → r ≡ unsigned_abs (clamp (pos 0) greatest_depth (floor_div sum (unsigned_abs total))) → r ≡ depth p x y
+    → r ≡ unsigned_abs (clamp (pos 0) (pos GREATEST_DEPTH) (floor_div sum (unsigned_abs total))) → r ≡ depth p x y
 unfolding depth weighted_sum
 depth-from p x y sum total r first second third =
     let all = ones (weight p 0 x y) (weight p 1 x y) (weight p 2 x y) in

@@ -3,18 +3,18 @@ use Rattle.std.specs.Prelude.{ℕ, ℤ, pos, ◌+◌, ◌*◌, ◌+ℤ◌, ◌-�
 use Rattle.std.proofs.Common.{arith}
 use Rattle.std.proofs.lemmas.Int.{ints}
 use Rattle.gl_records.specs.declared.prim.VertexOut.{VertexOut}
-use Rattle.gl_records.specs.Coverage.{center, edge}
+use Rattle.gl_records.specs.Coverage.{center, edge, doubled_area}
 use Rattle.coverage.proofs.Differences.{IsDifference, var, number, plus, minus, times, same}
 
 pub edge_from : (a b : VertexOut) (x y dx dy up right across along : ℤ)
     → dx ≡ b.x -ℤ a.x → dy ≡ b.y -ℤ a.y → up ≡ y -ℤ a.y → right ≡ x -ℤ a.x
     → across ≡ dx *ℤ up → along ≡ dy *ℤ right → across -ℤ along ≡ edge a b x y
-unfolding edge
+unfolding doubled_area
 edge_from a b x y dx dy up right across along e1 e2 e3 e4 e5 e6 = rw (e5, e6, e1, e2, e3, e4)
 
 -- the reverse of an edge has the opposite value
 pub edge-reverse : (a b : VertexOut) (x y : ℤ) → edge b a x y ≡ pos 0 -ℤ edge a b x y
-unfolding edge
+unfolding doubled_area
 edge-reverse a b x y =
     let ax = var a.x in let ay = var a.y in let bx = var b.x in let by = var b.y in
     let px = var x in let py = var y in
@@ -25,7 +25,7 @@ edge-reverse a b x y =
 -- the three values sum to twice the area, wherever they are taken
 pub edge-sum : (a b c : VertexOut) (x y : ℤ)
     → edge b c x y +ℤ edge c a x y +ℤ edge a b x y ≡ edge a b c.x c.y
-unfolding edge
+unfolding doubled_area
 edge-sum a b c x y =
     let ax = var a.x in let ay = var a.y in let bx = var b.x in let by = var b.y in
     let cx = var c.x in let cy = var c.y in let px = var x in let py = var y in
@@ -46,7 +46,7 @@ pub edge-step : (a b : VertexOut) (x y i r : ℕ)
     → edge a b (center (pos (x + i))) (center (pos (y + r)))
     ≡ (edge a b (center (pos x)) (center (pos y)) +ℤ (pos r *ℤ (pos 16 *ℤ (b.x -ℤ a.x))))
     +ℤ (pos i *ℤ (pos 16 *ℤ (a.y -ℤ b.y)))
-unfolding edge
+unfolding doubled_area
 edge-step a b x y i r =
     let ax = var a.x in let ay = var a.y in let bx = var b.x in let by = var b.y in
     same
@@ -59,7 +59,7 @@ edge-step a b x y i r =
 
 -- the value goes by the places of the corners alone
 pub edge-same : (a b c d : VertexOut) (x y : ℤ) → a.x ≡ c.x → a.y ≡ c.y → b.x ≡ d.x → b.y ≡ d.y → edge a b x y ≡ edge c d x y
-unfolding edge
+unfolding doubled_area
 edge-same a b c d x y e1 e2 e3 e4 = rw (e1, e2, e3, e4)
 
 nothing : (a b : ℤ) → (pos 0 *ℤ a) -ℤ (pos 0 *ℤ b) ≡ pos 0
@@ -67,5 +67,5 @@ nothing a b = omega (arith, ints)
 
 -- an edge of no length has the value 0
 pub edge-flat : (a b : VertexOut) (x y : ℤ) → b.x -ℤ a.x ≡ pos 0 → b.y -ℤ a.y ≡ pos 0 → edge a b x y ≡ pos 0
-unfolding edge
+unfolding doubled_area
 edge-flat a b x y e1 e2 = rw (e1, e2) (nothing (y -ℤ a.y) (x -ℤ a.x))

@@ -5,7 +5,7 @@ use Rattle.std.proofs.lemmas.Int.{ints}
 use Rattle.gl_records.specs.declared.prim.Primitive.{Primitive}
 use Rattle.gl_records.specs.declared.prim.PrimKind.TheVariants.{Point, Line, Triangle}
 use Rattle.gl_records.specs.declared.prim.VertexOut.{VertexOut}
-use Rattle.gl_records.specs.Coverage.{center, corner, covers, edge, edge_start, edge_end}
+use Rattle.gl_records.specs.Coverage.{center, corner, covers, edge, edge_start, edge_end, doubled_area}
 use Rattle.gl_records.specs.Valid.{IsCornerInRange, IsInRange}
 use Rattle.gl_records.specs.Weights.{AreWeights, only_first, weight, weights}
 use Rattle.coverage.proofs.CoverLemmas.{IsCovered-from, IsInside, IsInside-from, sum_positive}
@@ -33,7 +33,7 @@ below_sum a b p q = omega (arith, ints)
 
 -- twice a triangle's area
 edge_to : (a b c : VertexOut) → IsCornerInRange a → IsCornerInRange b → IsCornerInRange c → edge a b c.x c.y ≤ℤ pos (2 ^ 36)
-unfolding edge
+unfolding doubled_area
 edge_to a b c p q r =
     let one = unsigned_abs-product (b.x -ℤ a.x) (c.y -ℤ a.y) 163840 163840
     (apart a.x b.x p.x_from p.x_to q.x_from q.x_to) (apart a.y c.y p.y_from p.y_to r.y_from r.y_to) in

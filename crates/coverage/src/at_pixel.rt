@@ -1,12 +1,12 @@
 ghost use Rattle.std.specs.Prelude.{◌≡◌, pos, ◌+ℤ◌, ◌*ℤ◌, ◌-ℤ◌, ◌≤ℤ◌, ◌<ℤ◌, ◌≤◌, ◌^◌, IsTrue, unsigned_abs};
 ghost use Rattle.fx_arith.specs.Number.{clamp, floor_div};
 ghost use Rattle.gl_records.specs.Coverage.{covers};
-ghost use Rattle.gl_records.specs.Depth.{depth, greatest_depth};
+ghost use Rattle.gl_records.specs.Depth.{depth};
 ghost use Rattle.gl_records.specs.Valid.{IsInRange};
 ghost use Rattle.gl_records.specs.Weights.{AreWeights, weight, weights as weights_of};
 
 use crate::edges::edge;
-use gl_records::{Prim, PrimKind};
+use gl_records::{GREATEST_DEPTH, Prim, PrimKind};
 
 /// How much each corner counts at the centre of pixel (x, y). At a triangle it is the edge function of the edge
 /// across from the corner, which is twice the area between this edge and the centre, in units of 1/256 pixel
@@ -25,12 +25,12 @@ pub fn weights(p: &Prim, x: i32, y: i32) -> [i64; 3]
     }
 }
 
-/// The depth at the centre of pixel (x, y), 0 to 16777215.
+/// The depth at the centre of pixel (x, y), 0 to the greatest that there is.
 pub fn depth_at(p: &Prim, x: i32, y: i32) -> u32
     requires in_range { IsInRange p.now }
     requires covered { IsTrue (covers p.now x y) }
     ensures value { result ≡ depth p.now x y }
-    ensures to_greatest { result ≤ 16777215 }
+    ensures to_greatest { result ≤ GREATEST_DEPTH }
 {
     let [u, v, w] = weights(p, x, y);
     let [a, b, c] = &p.verts;
@@ -71,12 +71,12 @@ fn share(weight: i64, z: i32) -> i64
 fn clamped_quotient(sum: i64, total: i64) -> u32
     requires { pos 0 <ℤ total }
     ensures value { result
-        ≡ unsigned_abs (clamp (pos 0) greatest_depth (floor_div sum (unsigned_abs total))) }
-    ensures to_greatest { result ≤ 16777215 }
+        ≡ unsigned_abs (clamp (pos 0) (pos GREATEST_DEPTH) (floor_div sum (unsigned_abs total))) }
+    ensures to_greatest { result ≤ GREATEST_DEPTH }
 {
     if sum < 0 {
         0
     } else {
-        (sum / total).min(16777215) as u32
+        (sum / total).min(i64::from(GREATEST_DEPTH)) as u32
     }
 }

@@ -2,6 +2,7 @@ ghost use Rattle.std.specs.Prelude.{◌≡◌, ◌≤◌, ◌*◌, ◌^◌, ◌-
 ghost use Rattle.gl_records.specs.Coverage.{center as center_of, edge as edge_function};
 ghost use Rattle.gl_records.specs.Valid.{IsCornerInRange};
 
+use fx_arith::span;
 use gl_records::VertexOut;
 
 /// The edge function of the edge from `a` to `b` at the centre of pixel (x, y).
@@ -11,16 +12,9 @@ pub fn edge(a: &VertexOut, b: &VertexOut, x: i32, y: i32) -> i64
     ensures value { result ≡ edge_function a.now b.now (center_of x) (center_of y) }
     ensures small { unsigned_abs result ≤ 2 * 2 ^ 55 }
 {
-    let across = product(run(a.x, b.x), reach(a.y, y));
-    let along = product(run(a.y, b.y), reach(a.x, x));
+    let across = product(span(a.x, b.x), reach(a.y, y));
+    let along = product(span(a.y, b.y), reach(a.x, x));
     across - along
-}
-
-/// How far `b` lies beyond `a`.
-pub fn run(a: i32, b: i32) -> i64
-    ensures { result ≡ b -ℤ a }
-{
-    i64::from(b) - i64::from(a)
 }
 
 /// How far the centre of the pixels of a column or a row lies beyond `a`.

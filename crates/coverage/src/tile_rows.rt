@@ -4,7 +4,8 @@ ghost use Rattle.coverage.specs.Steps.{margin as margin_of, row_bit};
 ghost use Rattle.gl_records.specs.Coverage.{covers, owns as owns_centers};
 ghost use Rattle.gl_records.specs.Valid.{IsCornerInRange, IsInRange};
 
-use crate::edges::{edge, run};
+use crate::edges::edge;
+use fx_arith::span;
 use gl_records::{Prim, PrimKind, TileRect, VertexOut};
 
 /// Which pixels of a tile the primitive covers: bit i of row r is for pixel (x0 + i, y0 + r) (OpenGL 1.5,
@@ -64,7 +65,7 @@ fn margin(a: &VertexOut, b: &VertexOut, x: i32, y: i32) -> i64
     ensures small { unsigned_abs result ≤ 2 ^ 57 }
 {
     let value = edge(a, b, x, y);
-    if owns(run(a.x, b.x), run(a.y, b.y)) {
+    if owns(span(a.x, b.x), span(a.y, b.y)) {
         value
     } else {
         value - 1
@@ -76,7 +77,7 @@ fn step(a: i32, b: i32) -> i64
     ensures value { result ≡ pos 16 *ℤ (b -ℤ a) }
     ensures small { unsigned_abs result ≤ 2 ^ 37 }
 {
-    16 * (i64::from(b) - i64::from(a))
+    16 * span(a, b)
 }
 
 /// Whether an edge in this direction owns the centres on it.

@@ -12,12 +12,14 @@
 
 mod arithmetic;
 mod color;
+mod difference;
 mod dot;
 mod floor;
 mod fx;
 
 pub use arithmetic::{add, div, mul, sub};
 pub use color::c8;
+pub use difference::span;
 pub use dot::{dot3, dot4};
 pub use floor::{floor_div, floor_div_wide, floor_quotient, floor_quotient_wide};
 pub use fx::{Fx, clamp, saturate};
@@ -63,5 +65,6 @@ mod tests {
         assert_eq!(rt; floor_quotient(7, -2), -4);
         assert_eq!(rt; floor_quotient_wide(7, -2), -4);
         assert_eq!(rt; c8(HALF), 128);
+        assert_eq!(rt; span(i32::MAX, i32::MIN), -4294967295);
     }
 }

@@ -1,19 +1,18 @@
--- One pixel after a list of items, each drawn wholly before the next.
+-- One pixel after a list of captured items, each drawn wholly before the next.
 use Rattle.std.specs.Prelude.{ℕ, pos, List, [], ◌∷◌, if◌then◌else◌}
-use Rattle.gl_records.specs.declared.item.Item.{Item}
-use Rattle.gl_records.specs.declared.item.Item.TheVariants.{Draw, Clear}
 use Rattle.gl_records.specs.declared.pixel.Pixel.{Pixel}
+use Rattle.gl_records.specs.Captured.{Captured, Draw, Clear}
 use Rattle.gl_records.specs.Clear.{clear_step}
 use Rattle.gl_records.specs.Coverage.{covers}
 use Rattle.gl_records.specs.Draw.{draw_step}
 use Rattle.gl_records.specs.PixelBox.{holds}
 
 -- pixel (x, y) after one item
-abbrev pub step : Item → ℕ → ℕ → Pixel → Pixel
+abbrev pub step : Captured → ℕ → ℕ → Pixel → Pixel
 step (Draw prim) x y pixel = if covers prim (pos x) (pos y) then draw_step prim x y pixel else pixel
 step (Clear clear) x y pixel = if holds clear.area x y then clear_step clear pixel else pixel
 
 -- pixel (x, y) after the items in their order
-abbrev pub after : List Item → ℕ → ℕ → Pixel → Pixel
+abbrev pub after : List Captured → ℕ → ℕ → Pixel → Pixel
 after [] x y pixel = pixel
 after (item ∷ items) x y pixel = after items x y (step item x y pixel)

@@ -11,9 +11,15 @@ use Rattle.gl_records.specs.declared.prim.VertexOut.{VertexOut}
 abbrev pub center : ℤ → ℤ
 center at = (pos 16 *ℤ at) +ℤ pos 8
 
--- the edge function of the edge from a to b at a place: above 0 to its left, 0 on it, below 0 to its right
-unfoldable pub edge : VertexOut → VertexOut → ℤ → ℤ → ℤ
-edge a b x y = ((b.x -ℤ a.x) *ℤ (y -ℤ a.y)) -ℤ ((b.y -ℤ a.y) *ℤ (x -ℤ a.x))
+-- twice the area of the triangle with the corners (ax, ay), (bx, by) and (cx, cy): above 0 where they run
+-- counterclockwise
+unfoldable pub doubled_area : ℤ → ℤ → ℤ → ℤ → ℤ → ℤ → ℤ
+doubled_area ax ay bx by cx cy = ((bx -ℤ ax) *ℤ (cy -ℤ ay)) -ℤ ((by -ℤ ay) *ℤ (cx -ℤ ax))
+
+-- the edge function of the edge from a to b at a place, of the triangle that the edge and the place make: above 0
+-- to the edge's left, 0 on it, below 0 to its right
+abbrev pub edge : VertexOut → VertexOut → ℤ → ℤ → ℤ
+edge a b x y = doubled_area a.x a.y b.x b.y x y
 
 -- the fill rule: an edge in this direction owns the centres on it, and its reverse does not
 -- (this project's profile; OpenGL 1.5, 3.5.1, asks that one of two triangles at an edge has such a centre)

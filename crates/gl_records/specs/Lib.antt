@@ -1,4 +1,5 @@
 pub mod After
+pub mod Captured
 pub mod Clear
 pub mod ClipVertex
 pub mod Coverage

@@ -1,13 +1,13 @@
--- Which primitives set-up hands to the rasteriser (this project's profile).
-use Rattle.std.specs.Prelude.{ℕ, pos, negsuc, ◌≤ℤ◌, ◌<ℤ◌, ◌^◌, ◌<◌, ◌≤◌, IsTrue}
-use Rattle.gl_records.specs.declared.item.Item.{Item}
-use Rattle.gl_records.specs.declared.item.Item.TheVariants.{Draw, Clear}
+-- Which primitives set-up hands to the rasteriser, and which Clears there are (this project's profile).
+use Rattle.std.specs.Prelude.{ℕ, pos, negsuc, ◌≤ℤ◌, ◌<ℤ◌, ◌^◌, ◌<◌, ◌≤◌, Bool, ◌||◌, IsTrue, is_some}
+use Rattle.gl_records.specs.declared.clear.ClearItem.{ClearItem}
 use Rattle.gl_records.specs.declared.pixel_box.PixelBox.{PixelBox}
 use Rattle.gl_records.specs.declared.prim.Primitive.{Primitive}
 use Rattle.gl_records.specs.declared.prim.PrimKind.{PrimKind}
 use Rattle.gl_records.specs.declared.prim.PrimKind.TheVariants.{Point, Line, Triangle}
 use Rattle.gl_records.specs.declared.prim.VertexOut.{VertexOut}
 use Rattle.gl_records.specs.declared.size.Size.{Size}
+use Rattle.gl_records.specs.Captured.{Captured, Draw, Clear}
 use Rattle.gl_records.specs.Coverage.{corner, covers}
 use Rattle.gl_records.specs.PixelBox.{holds}
 
@@ -50,7 +50,16 @@ pub record IsValid (p : Primitive) (size : Size) : Type 0 where
   pub bounds : IsBoxOf size p.bounds
   pub holds_covered : (x y : ℕ) → x < size.w → y < size.h → IsTrue (covers p (pos x) (pos y)) → IsTrue (holds p.bounds x y)
 
+-- the Clear has something to write
+abbrev pub has_part : ClearItem → Bool
+has_part clear = is_some clear.color || is_some clear.depth || is_some clear.stencil
+
+-- the Clear touches a surface of this size
+pub record IsValidClear (clear : ClearItem) (size : Size) : Type 0 where
+  pub area : IsBoxOf size clear.area
+  pub part : IsTrue (has_part clear)
+
 -- an item that a surface of this size can take
-abbrev pub IsDrawable : Item → Size → Type 0
+abbrev pub IsDrawable : Captured → Size → Type 0
 IsDrawable (Draw prim) size = IsValid prim size
-IsDrawable (Clear clear) size = Unit {0}
+IsDrawable (Clear clear) size = IsValidClear clear size

@@ -8,7 +8,7 @@ pub struct ClearItem {
     pub area: PixelBox,
     /// The colour and the colour mask, both R G B A.
     pub color: Option<([u8; 4], [bool; 4])>,
-    /// The depth, 0 to 16777215.
+    /// The depth, 0 to the greatest that there is.
     pub depth: Option<u32>,
     /// The stencil value, and the bits of it that are written.
     pub stencil: Option<(u8, u8)>,

@@ -1,5 +1,8 @@
 //! Memory of which some calls fail.
-ghost use Rattle.std.specs.Prelude.{◌≡◌, [], Some};
+ghost use Rattle.std.specs.Prelude.{◌≡◌, ◌≤◌, [], true, Some, Err, IfOk, IfErr, OnErr, OnOk, take, length, min, is_err};
+ghost use Rattle.std.specs.Io.KnownBytes.{Appends, ReadConsumes};
+ghost use Rattle.outer_io.specs.Faults.{Rose};
+ghost use Rattle.outer_io.specs.Bytes.{PutsAtMost, is_failed};
 
 use crate::never::copy_front;
 use crate::sink::{PutFault, Sink};
@@ -48,11 +51,25 @@ impl MemSource {
 }
 
 impl Source for MemSource {
+    ghost use Rattle.outer_io.specs.Memory.{is_listed, failed as failed_call, taken_from};
+
     ghost rest = { λ source. Some source.bytes };
 
     ghost faults = { λ source. source.faults };
 
-    fn take(&mut self, into: &mut [u8]) -> Result<usize, Failed> {
+    /// Fails exactly where this call is listed, and then takes nothing; else it takes as many bytes as there are
+    /// and as fit.
+    fn take(&mut self, into: &mut [u8]) -> Result<usize, Failed>
+        ensures count { IfOk result (λ taken. taken ≤ length into.new) }
+        ensures bytes { ReadConsumes (Some self.old.bytes) (Some self.new.bytes) result into.new }
+        ensures failed { OnErr result (Rose self.old.faults self.new.faults) }
+        ensures faults { self.old.faults ≤ self.new.faults }
+
+        ensures listed { is_err result ≡ is_listed self.old }
+        ensures taken { IfOk result (λ taken. taken ≡ min (length self.old.bytes) (length into.new)) }
+        ensures after { IfOk result (λ taken. self.new ≡ taken_from self.old taken) }
+        ensures after_fault { OnErr result (self.new ≡ failed_call self.old) }
+    {
         let call = self.calls;
         self.calls = call.saturating_add(1);
         if self.fails.contains(&call) {
@@ -109,11 +126,24 @@ impl MemSink {
 }
 
 impl Sink for MemSink {
+    ghost use Rattle.outer_io.specs.Memory.{is_listed, called, failed as failed_call, with_piece};
+
     ghost held = { λ sink. Some sink.bytes };
 
     ghost faults = { λ sink. sink.faults };
 
-    fn put(&mut self, piece: &[u8]) -> Result<(), PutFault> {
+    /// Fails exactly where this call is listed, and then appends nothing.
+    fn put(&mut self, piece: &[u8]) -> Result<(), PutFault>
+        ensures whole { OnOk result (Appends (Some self.old.bytes) (Some self.new.bytes) piece.now) }
+        ensures front { IfErr result (PutsAtMost (Some self.old.bytes) (Some self.new.bytes) piece.now) }
+        ensures failed { result ≡ Err PutFault.Failed → Rose self.old.faults self.new.faults }
+        ensures faults { self.old.faults ≤ self.new.faults }
+
+        ensures listed { is_failed result ≡ is_listed self.old }
+        ensures after { OnOk result (self.new ≡ with_piece self.old piece.now) }
+        ensures after_fault { result ≡ Err PutFault.Failed → self.new ≡ failed_call self.old }
+        ensures after_want { result ≡ Err PutFault.NoMemory → self.new ≡ called self.old }
+    {
         let call = self.calls;
         self.calls = call.saturating_add(1);
         if self.fails.contains(&call) {

@@ -9,7 +9,8 @@ use Rattle.gl_records.specs.declared.prim.VertexOut.{VertexOut}
 use Rattle.gl_records.specs.declared.size.Size.{Size}
 use Rattle.gl_records.specs.Coverage.{center}
 use Rattle.gl_records.specs.PixelBox.{holds}
-use Rattle.primitive_setup.specs.Bounds.{bounds_of, end_at, first_from, greatest, least, IsCenterWithin}
+use Rattle.primitive_setup.specs.Bounds.{bounds_of, end_at, first_from, greatest, least, HoldsCenters, IsCenterWithin}
+use Rattle.primitive_setup.specs.Offset.{with_offset}
 use lib.Signed.{mag}
 use mir.Syntax.{w32}
 use mir.Val.{to_z, of_z}
@@ -119,3 +120,17 @@ pub box_same : (size : Size) (a b c : VertexOut) (x0 y0 x1 y1 : ℤ)
     → ◌≡◌ {A = PixelBox} (record { x0 = x0; y0 = y0; x1 = x1; y1 = y1 }) (bounds_of size a b c)
 unfolding bounds_of
 box_same size a b c x0 y0 x1 y1 p q r s = cc
+
+-- a centre lies in the box wherever the corners' depths are moved to
+within_moved : (z : ℤ) (a b c : VertexOut) (x y : ℤ) → IsCenterWithin a b c x y → IsCenterWithin (with_offset z a) (with_offset z b) (with_offset z c) x y
+within_moved z a b c x y within = record { left = within.left; right = within.right; bottom = within.bottom; top = within.top }
+
+within_before : (z : ℤ) (a b c : VertexOut) (x y : ℤ) → IsCenterWithin (with_offset z a) (with_offset z b) (with_offset z c) x y → IsCenterWithin a b c x y
+within_before z a b c x y within = record { left = within.left; right = within.right; bottom = within.bottom; top = within.top }
+
+pub HoldsCenters-moved : (z : ℤ) (area : PixelBox) (size : Size) (a b c : VertexOut) → HoldsCenters area size a b c
+    → HoldsCenters area size (with_offset z a) (with_offset z b) (with_offset z c)
+HoldsCenters-moved z area size a b c exact x y = (
+  λ held. let found = (exact x y).0 held in (found.0, found.1, within_moved z a b c (pos x) (pos y) found.2),
+  λ found. (exact x y).1 (found.0, found.1, within_before z a b c (pos x) (pos y) found.2),
+)

@@ -5,7 +5,7 @@ use Rattle.std.proofs.lemmas.Int.{ints, clamps, by_lt_z}
 use Rattle.std.proofs.Math.IntN.{*ℤ_comm}
 use Rattle.fx_arith.proofs.Products.{*ℤ--ℤ, -ℤ-*ℤ, *ℤ-opposite, *ℤ_assoc, *ℤ_swap, *ℤ-≤}
 use Rattle.primitive_setup.specs.Bounds.{greatest, least}
-use Rattle.primitive_setup.specs.Facing.{doubled_area}
+use Rattle.gl_records.specs.Coverage.{doubled_area}
 use Rattle.primitive_setup.proofs.Words.{cross_same}
 
 -- the edge function in the distances of its corners from the place
@@ -92,15 +92,20 @@ pub record AreEdges (ax ay bx by cx cy x y e0 e1 e2 : ℤ) : Type 0 where
   pub second : e1 ≡ (cx -ℤ x) *ℤ (ay -ℤ y) -ℤ (ax -ℤ x) *ℤ (cy -ℤ y)
   pub third : e2 ≡ (ax -ℤ x) *ℤ (by -ℤ y) -ℤ (bx -ℤ x) *ℤ (ay -ℤ y)
 
+-- the area with the second product turned round
+doubled_area-turned : (ax ay bx by cx cy : ℤ) → doubled_area ax ay bx by cx cy ≡ (bx -ℤ ax) *ℤ (cy -ℤ ay) -ℤ (cx -ℤ ax) *ℤ (by -ℤ ay)
+unfolding doubled_area
+doubled_area-turned ax ay bx by cx cy = ap (λ n. (bx -ℤ ax) *ℤ (cy -ℤ ay) -ℤ n) (*ℤ_comm (by -ℤ ay) (cx -ℤ ax))
+
 sum_is_area : (ax ay bx by cx cy x y e0 e1 e2 : ℤ) → AreEdges ax ay bx by cx cy x y e0 e1 e2
     → doubled_area ax ay bx by cx cy ≡ e0 +ℤ e1 +ℤ e2
-unfolding doubled_area
 sum_is_area ax ay bx by cx cy x y e0 e1 e2 edges =
     let along_b : bx -ℤ ax ≡ (bx -ℤ x) -ℤ (ax -ℤ x) = omega (arith, ints) in
     let along_c : cx -ℤ ax ≡ (cx -ℤ x) -ℤ (ax -ℤ x) = omega (arith, ints) in
     let up_b : by -ℤ ay ≡ (by -ℤ y) -ℤ (ay -ℤ y) = omega (arith, ints) in
     let up_c : cy -ℤ ay ≡ (cy -ℤ y) -ℤ (ay -ℤ y) = omega (arith, ints) in
-    cross_same ((bx -ℤ ax) *ℤ (cy -ℤ ay) -ℤ (cx -ℤ ax) *ℤ (by -ℤ ay)) (bx -ℤ ax) (by -ℤ ay) (cx -ℤ ax) (cy -ℤ ay)
+    doubled_area-turned ax ay bx by cx cy
+    ∙ cross_same ((bx -ℤ ax) *ℤ (cy -ℤ ay) -ℤ (cx -ℤ ax) *ℤ (by -ℤ ay)) (bx -ℤ ax) (by -ℤ ay) (cx -ℤ ax) (cy -ℤ ay)
     ((bx -ℤ x) -ℤ (ax -ℤ x)) ((by -ℤ y) -ℤ (ay -ℤ y)) ((cx -ℤ x) -ℤ (ax -ℤ x)) ((cy -ℤ y) -ℤ (ay -ℤ y)) refl along_b up_b along_c up_c
     ∙ area_is (ax -ℤ x) (ay -ℤ y) (bx -ℤ x) (by -ℤ y) (cx -ℤ x) (cy -ℤ y)
     ∙ omega (arith, ints, edges.first, edges.second, edges.third)

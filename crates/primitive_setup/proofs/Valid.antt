@@ -8,10 +8,9 @@ use Rattle.gl_records.specs.declared.pixel_box.PixelBox.{PixelBox}
 use Rattle.gl_records.specs.declared.prim.PrimKind.TheVariants.{Triangle}
 use Rattle.gl_records.specs.declared.prim.VertexOut.{VertexOut}
 use Rattle.gl_records.specs.declared.size.Size.{Size}
-use Rattle.gl_records.specs.Coverage.{center, covers, edge, inside_edge, owns}
+use Rattle.gl_records.specs.Coverage.{center, covers, doubled_area, edge, inside_edge, owns}
 use Rattle.gl_records.specs.Valid.{IsBoxOf, IsCornerInRange, IsValid}
 use Rattle.primitive_setup.specs.Bounds.{bounds_of, is_empty, IsCenterWithin}
-use Rattle.primitive_setup.specs.Facing.{doubled_area}
 use Rattle.primitive_setup.specs.Offset.{with_offset}
 use Rattle.primitive_setup.specs.Window.{IsInWindow}
 use Rattle.primitive_setup.proofs.Boxes.{holds-bounds_of}
@@ -29,7 +28,7 @@ edge_at_least a b x y h =
     inside_cases e (int_lt (pos 0) e) (int_eq e (pos 0)) (owns (b.x -ℤ a.x) (b.y -ℤ a.y)) refl refl h
 
 edges_at : (a b c : VertexOut) (x y : ℤ) → AreEdges a.x a.y b.x b.y c.x c.y x y (edge b c x y) (edge c a x y) (edge a b x y)
-unfolding edge
+unfolding doubled_area
 edges_at a b c x y = record {
   first = edge_is b.x b.y c.x c.y x y;
   second = edge_is c.x c.y a.x a.y x y;
@@ -85,7 +84,7 @@ box_of size a b c h =
 pub triangle_valid : (size : Size) (offset : ℤ) (a b c : VertexOut) → negsuc 33554431 ≤ℤ offset → offset ≤ℤ pos 33554432
     → IsInWindow a → IsInWindow b → IsInWindow c → pos 0 <ℤ doubled_area a.x a.y b.x b.y c.x c.y → is_empty (bounds_of size a b c) ≡ false
     → IsValid (record { kind = Triangle; verts = with_offset offset a ∷ with_offset offset b ∷ with_offset offset c ∷ []; width = 0; bounds = bounds_of size a b c }) size
-unfolding covers edge
+unfolding covers doubled_area
 triangle_valid size offset a b c from to first second third area some = record {
   in_range = record {
     first = corner_in_range offset a from to first;

@@ -1,12 +1,16 @@
 -- The pixels of the surface whose centres lie in the closed box of a triangle's corners (this project's
 -- profile).
-use Rattle.std.specs.Prelude.{ℤ, pos, ◌+ℤ◌, ◌≤ℤ◌, Bool, ◌||◌, int_le}
+use Rattle.std.specs.Prelude.{ℕ, ℤ, pos, ◌+ℤ◌, ◌≤ℤ◌, ◌<◌, ◌↔◌, Bool, ◌||◌, int_le, IsTrue}
 use Rattle.std.specs.Int.{int_max, int_min}
 use Rattle.fx_arith.specs.Number.{floor_div}
 use Rattle.gl_records.specs.declared.pixel_box.PixelBox.{PixelBox}
 use Rattle.gl_records.specs.declared.prim.VertexOut.{VertexOut}
 use Rattle.gl_records.specs.declared.size.Size.{Size}
-use Rattle.gl_records.specs.Coverage.{center}
+use Rattle.gl_records.specs.declared.prim.PrimKind.{PrimKind}
+use Rattle.gl_records.specs.declared.prim.PrimKind.TheVariants.{Point, Line, Triangle}
+use Rattle.gl_records.specs.declared.prim.Primitive.{Primitive}
+use Rattle.gl_records.specs.Coverage.{center, corner}
+use Rattle.gl_records.specs.PixelBox.{holds}
 
 -- of three numbers, the least and the greatest
 abbrev pub least : ℤ → ℤ → ℤ → ℤ
@@ -42,3 +46,14 @@ pub record IsCenterWithin (a b c : VertexOut) (x y : ℤ) : Type 0 where
   pub right : center x ≤ℤ greatest a.x b.x c.x
   pub bottom : least a.y b.y c.y ≤ℤ center y
   pub top : center y ≤ℤ greatest a.y b.y c.y
+
+-- the box holds exactly the pixels of the surface whose centres lie in the closed box of the corners
+abbrev pub HoldsCenters : PixelBox → Size → VertexOut → VertexOut → VertexOut → Type 0
+HoldsCenters area size a b c =
+    (x y : ℕ) → IsTrue (holds area x y) ↔ ((x < size.w) × (y < size.h) × IsCenterWithin a b c (pos x) (pos y))
+
+-- the bounds of a triangle are such a box
+abbrev pub AreBoundsOf : PrimKind → Size → Primitive → Type 0
+AreBoundsOf Triangle size prim = HoldsCenters prim.bounds size (corner prim 0) (corner prim 1) (corner prim 2)
+AreBoundsOf Point size prim = Unit {0}
+AreBoundsOf Line size prim = Unit {0}

@@ -1,9 +1,5 @@
 -- Which side of a triangle is seen, and whether that side is culled (OpenGL ES 1.1.12, 2.12.1 and 3.5.1).
-use Rattle.std.specs.Prelude.{ℤ, pos, ◌-ℤ◌, ◌*ℤ◌, Bool, false, ◌&&◌, not, List, Option, Some, None, int_lt, slice_index_or, if◌then◌else◌}
-
--- twice the area of the triangle with these corners: above 0 where they run counterclockwise
-unfoldable pub doubled_area : ℤ → ℤ → ℤ → ℤ → ℤ → ℤ → ℤ
-doubled_area ax ay bx by cx cy = (bx -ℤ ax) *ℤ (cy -ℤ ay) -ℤ (cx -ℤ ax) *ℤ (by -ℤ ay)
+use Rattle.std.specs.Prelude.{ℤ, pos, Bool, false, ◌&&◌, not, List, Option, Some, None, int_lt, slice_index_or, if◌then◌else◌}
 
 -- the front of a triangle of this doubled area is seen
 unfoldable pub faces_front : Bool → ℤ → Bool

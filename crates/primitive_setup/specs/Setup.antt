@@ -12,9 +12,10 @@ use Rattle.gl_records.specs.declared.setup_rules.SetupRules.{SetupRules}
 use Rattle.gl_records.specs.declared.size.Size.{Size}
 use Rattle.primitive_setup.specs.declared.window.Place.{Place}
 use Rattle.primitive_setup.specs.Bounds.{bounds_of, is_empty}
-use Rattle.primitive_setup.specs.Facing.{doubled_area, faces_front, is_culled, takes_back_colors}
+use Rattle.primitive_setup.specs.Facing.{faces_front, is_culled, takes_back_colors}
 use Rattle.primitive_setup.specs.Offset.{with_offset, offset_of}
 use Rattle.gl_records.specs.ClipVertex.{vertex}
+use Rattle.gl_records.specs.Coverage.{doubled_area}
 use Rattle.primitive_setup.specs.Window.{corner_of, place_of}
 
 -- a triangle with these corners and these bounds, the offset added to each depth; none where the bounds are empty

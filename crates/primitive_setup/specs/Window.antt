@@ -4,6 +4,7 @@ use Rattle.std.specs.Prelude.{ℕ, ℤ, pos, negsuc, ◌≤ℤ◌, ◌≤◌, �
 use Rattle.fx_arith.specs.declared.fx.Fx.{Fx}
 use Rattle.fx_arith.specs.Number.{c8, clamp, component, floor_quotient}
 use Rattle.gl_records.specs.declared.clip_vertex.ClipVertex.{ClipVertex}
+use Rattle.gl_records.specs.declared.pixel.TheConstants.{GREATEST_DEPTH}
 use Rattle.gl_records.specs.declared.prim.VertexOut.{VertexOut}
 use Rattle.gl_records.specs.declared.setup_rules.SetupRules.{SetupRules}
 use Rattle.primitive_setup.specs.declared.window.Place.{Place}
@@ -34,8 +35,8 @@ pub record IsInViewport (place : Place) : Type 0 where
 -- the clip coordinates z and w between the depths of the near and the far plane, as a depth of 24 bits
 unfoldable pub depth_of : ℤ → ℤ → ℤ → ℤ → ℤ
 depth_of near far z w =
-    clamp (pos 0) (pos 16777215)
-    (floor_quotient (pos 16777215 *ℤ ((far -ℤ near) *ℤ z +ℤ (near +ℤ far) *ℤ w)) (pos 131072 *ℤ w))
+    clamp (pos 0) (pos GREATEST_DEPTH)
+    (floor_quotient (pos GREATEST_DEPTH *ℤ ((far -ℤ near) *ℤ z +ℤ (near +ℤ far) *ℤ w)) (pos 131072 *ℤ w))
 
 -- 2^31 over w
 unfoldable pub reciprocal_of : ℤ → ℕ
@@ -68,6 +69,6 @@ pub record IsInWindow (v : VertexOut) : Type 0 where
   pub y_from : negsuc 65535 ≤ℤ v.y
   pub y_to : v.y ≤ℤ pos 98304
   pub z_from : pos 0 ≤ℤ v.z
-  pub z_to : v.z ≤ℤ pos 16777215
+  pub z_to : v.z ≤ℤ pos GREATEST_DEPTH
   pub q_from : 1 ≤ v.q
   pub q_to : v.q ≤ 2 ^ 31

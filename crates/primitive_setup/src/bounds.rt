@@ -1,6 +1,5 @@
 ghost use Rattle.std.specs.Prelude.{◌≡◌, ◌↔◌, ℕ, ◌<◌, ◌≤ℤ◌, pos, negsuc, IsTrue};
-ghost use Rattle.gl_records.specs.PixelBox.{holds};
-ghost use Rattle.primitive_setup.specs.Bounds.{bounds_of, end_at as end_of, first_from as first_of, greatest as greatest_of, is_empty as holds_none, least as least_of, IsCenterWithin};
+ghost use Rattle.primitive_setup.specs.Bounds.{bounds_of, end_at as end_of, first_from as first_of, greatest as greatest_of, is_empty as holds_none, least as least_of, HoldsCenters};
 ghost use Rattle.primitive_setup.specs.Window.{IsInWindow};
 
 use gl_records::{PixelBox, Size, VertexOut};
@@ -12,7 +11,7 @@ pub(crate) fn pixel_bounds(size: Size, a: &VertexOut, b: &VertexOut, c: &VertexO
     requires second { IsInWindow b.now }
     requires third { IsInWindow c.now }
     ensures value { result ≡ bounds_of size a.now b.now c.now }
-    ensures exact { (x y : ℕ) → IsTrue (holds result x y) ↔ ((x < size.w) × (y < size.h) × IsCenterWithin a.now b.now c.now (pos x) (pos y)) }
+    ensures exact { HoldsCenters result size a.now b.now c.now }
 {
     PixelBox {
         x0: first_from(least(a.x, b.x, c.x)),

@@ -11,10 +11,3 @@ pub(crate) fn cross(ux: i64, uy: i64, vx: i64, vy: i64) -> i64
 {
     ux * vy - vx * uy
 }
-
-/// How far `to` is past `from`.
-pub(crate) fn span(from: i32, to: i32) -> i64
-    ensures { result ≡ to -ℤ from }
-{
-    i64::from(to) - i64::from(from)
-}

@@ -3,12 +3,13 @@ ghost use Rattle.primitive_setup.specs.Facing.{faces_front as front_is_seen, is_
 ghost use Rattle.primitive_setup.specs.Setup.{area_of};
 ghost use Rattle.primitive_setup.specs.Window.{IsInViewport};
 
-use crate::cross::{cross, span};
+use crate::cross::cross;
 use crate::window::Place;
+use fx_arith::span;
 
 /// Twice the area of a triangle, in units of 1/256 square pixel: above 0 where its corners run
 /// counterclockwise.
-#[tactic(auto, unfolding(crate::specs::Facing::doubled_area))]
+#[tactic(auto, unfolding(gl_records::specs::Coverage::doubled_area))]
 pub(crate) fn doubled_area(a: Place, b: Place, c: Place) -> i64
     requires first { IsInViewport a }
     requires second { IsInViewport b }

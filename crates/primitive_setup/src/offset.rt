@@ -4,8 +4,8 @@ ghost use Rattle.primitive_setup.specs.Offset.{offset_for as offset_by, offset_o
 ghost use Rattle.primitive_setup.specs.Window.{IsInWindow};
 
 use crate::clamping::clamp_wide;
-use crate::cross::{cross, span};
-use fx_arith::{Fx, floor_div_wide};
+use crate::cross::cross;
+use fx_arith::{Fx, floor_div_wide, span};
 use gl_records::VertexOut;
 
 /// What polygon offset adds to the depths of a triangle of this doubled area.

@@ -2,7 +2,8 @@ ghost use Rattle.std.specs.Prelude.{◌≡◌, ◌≢◌, ◌≤◌, ◌^◌, �
 ghost use Rattle.gl_records.specs.ClipVertex.{AreInFront, vertex};
 ghost use Rattle.gl_records.specs.SetupRules.{AreRulesInRange};
 ghost use Rattle.gl_records.specs.Valid.{IsValid};
-ghost use Rattle.primitive_setup.specs.Facing.{doubled_area as area_in};
+ghost use Rattle.gl_records.specs.Coverage.{doubled_area as area_in};
+ghost use Rattle.primitive_setup.specs.Bounds.{AreBoundsOf};
 ghost use Rattle.primitive_setup.specs.Offset.{with_offset as corner_with_offset};
 ghost use Rattle.primitive_setup.specs.Setup.{offset_triangle as offset_triangle_of, setup_of, triangle_of, counterclockwise_triangle as counterclockwise_of};
 ghost use Rattle.primitive_setup.specs.Window.{IsInWindow};
@@ -22,6 +23,7 @@ pub fn setup(rules: &SetupRules, kind: PrimKind, v: &[ClipVertex; 3], size: Size
     requires in_front { AreInFront v.now }
     ensures value { result ≡ setup_of rules.now kind v.now size }
     ensures valid { IfSome result (λ prim. IsValid prim size) }
+    ensures bounds { IfSome result (λ prim. AreBoundsOf prim.kind size prim) }
 {
     match kind {
         PrimKind::Triangle => triangle(rules, size, v),
@@ -35,6 +37,7 @@ fn triangle(rules: &SetupRules, size: Size, v: &[ClipVertex; 3]) -> Option<Prim>
     requires in_front { AreInFront v.now }
     ensures value { result ≡ triangle_of rules.now size (vertex v.now 0) (vertex v.now 1) (vertex v.now 2) }
     ensures valid { IfSome result (λ prim. IsValid prim size) }
+    ensures bounds { IfSome result (λ prim. AreBoundsOf prim.kind size prim) }
 {
     let a = viewport_transform(rules, &v[0]);
     let b = viewport_transform(rules, &v[1]);
@@ -69,6 +72,7 @@ fn counterclockwise_triangle(
     requires third { IsInWindow c.now }
     ensures value { result ≡ counterclockwise_of offset.now size area a.now b.now c.now }
     ensures valid { IfSome result (λ prim. IsValid prim size) }
+    ensures bounds { IfSome result (λ prim. AreBoundsOf prim.kind size prim) }
 {
     if area < 0 {
         offset_triangle(offset, size, area.unsigned_abs(), a, c, b)
@@ -95,6 +99,7 @@ fn offset_triangle(
     requires third { IsInWindow c.now }
     ensures value { result ≡ offset_triangle_of offset.now size area a.now b.now c.now }
     ensures valid { IfSome result (λ prim. IsValid prim size) }
+    ensures bounds { IfSome result (λ prim. AreBoundsOf prim.kind size prim) }
 {
     let bounds = pixel_bounds(size, a, b, c);
     if is_empty(&bounds) {

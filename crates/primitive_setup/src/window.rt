@@ -6,7 +6,10 @@ ghost use Rattle.primitive_setup.specs.Window.{along_axis as along, IsInViewport
 
 use crate::clamping::{clamp_to, clamp_wide};
 use fx_arith::{Fx, c8, floor_quotient, floor_quotient_wide};
-use gl_records::{ClipVertex, SetupRules, VertexOut};
+use gl_records::{ClipVertex, GREATEST_DEPTH, SetupRules, VertexOut};
+
+/// The greatest depth, as a factor of wide products.
+const DEPTHS: i128 = GREATEST_DEPTH as i128;
 
 /// A place in the window, in units of 1/16 pixel from the lower left of the surface.
 #[derive(Clone, Copy, Debug, PartialEq, Eq)]
@@ -94,7 +97,7 @@ fn from_middle(half: i32, clip: Fx, w: Fx) -> i64
     floor_quotient(product(half, clip), i64::from(w.0))
 }
 
-/// The depth of a vertex, 0 to 16777215.
+/// The depth of a vertex, 0 to the greatest that there is.
 #[tactic(auto, unfolding(crate::specs::Window::depth_of))]
 fn depth(near: Fx, far: Fx, z: Fx, w: Fx) -> i32
     requires near_from { pos 0 ≤ℤ near.0 }
@@ -104,13 +107,13 @@ fn depth(near: Fx, far: Fx, z: Fx, w: Fx) -> i32
     requires in_front { pos 1 ≤ℤ w.0 }
     ensures value { result ≡ depth_of near.0 far.0 z.0 w.0 }
     ensures from { pos 0 ≤ℤ result }
-    ensures to { result ≤ℤ pos 16777215 }
+    ensures to { result ≤ℤ pos GREATEST_DEPTH }
 {
-    let weighted = 16777215 * i128::from(between(near, far, z, w));
+    let weighted = DEPTHS * i128::from(between(near, far, z, w));
     clamp_wide(
         floor_quotient_wide(weighted, 131072 * i64::from(w.0)),
         0,
-        16777215,
+        GREATEST_DEPTH as i32,
     )
 }
 

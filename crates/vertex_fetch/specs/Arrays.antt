@@ -13,12 +13,7 @@ use Rattle.vertex_fetch.specs.Regions.{is_past_regions}
 use Rattle.vertex_fetch.specs.declared.arrays.Arrays.{Arrays}
 use Rattle.vertex_fetch.specs.declared.coordinate_type.CoordinateType.{CoordinateType}
 use Rattle.vertex_fetch.specs.declared.coordinate_type.CoordinateType.TheVariants.{Byte, Short, Fixed}
-use Rattle.vertex_fetch.specs.declared.vertex_array.VertexArray.{VertexArray}
-
--- where a vertex array lies
-abbrev pub pointer : ℕ → CoordinateType → ℕ → ℕ → ℕ → VertexArray
-pointer size kind stride region offset =
-    record { size = size; kind = kind; stride = stride; region = region; offset = offset }
+use Rattle.vertex_fetch.specs.Pointer.{pointer}
 
 -- every array is off; the vertex array has 4 GLfixed coordinates, and it begins where region 0 begins
 abbrev pub opening_arrays : Arrays

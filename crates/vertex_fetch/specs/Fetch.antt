@@ -6,23 +6,23 @@ use Rattle.gl_records.specs.declared.attribs.Attribs.{Attribs}
 use Rattle.vertex_fetch.specs.CoordinateType.{width_of, coordinate_at}
 use Rattle.vertex_fetch.specs.Regions.{bytes_of}
 use Rattle.vertex_fetch.specs.declared.arrays.Arrays.{Arrays}
-use Rattle.vertex_fetch.specs.declared.vertex_array.VertexArray.{VertexArray}
+use Rattle.vertex_fetch.specs.Pointer.{Pointer}
 
 -- the bytes from one element to the next: a stride of 0 stands for elements one right after the other
-abbrev pub spacing : VertexArray → ℕ
+abbrev pub spacing : Pointer → ℕ
 spacing array = if array.stride == 0 then array.size * width_of array.kind else array.stride
 
 -- the byte of the region at which element k begins
-abbrev pub element_start : VertexArray → ℕ → ℕ
+abbrev pub element_start : Pointer → ℕ → ℕ
 element_start array k = array.offset + k * spacing array
 
 -- component c of the element that begins at this byte, and what stands for one that the array doesn't have
-abbrev pub component : VertexArray → List ℕ → ℕ → ℕ → Fx → Fx
+abbrev pub component : Pointer → List ℕ → ℕ → ℕ → Fx → Fx
 component array bytes start c missing =
     if nat_lt c array.size then record { 0 = coordinate_at array.kind bytes (start + c * width_of array.kind) } else missing
 
 -- x y z w of the element that begins at this byte: z is 0 where the array has none, and w is 1
-abbrev pub position_at : VertexArray → List ℕ → ℕ → List Fx
+abbrev pub position_at : Pointer → List ℕ → ℕ → List Fx
 position_at array bytes start =
     component array bytes start 0 (record { 0 = pos 0 })
     ∷ component array bytes start 1 (record { 0 = pos 0 })

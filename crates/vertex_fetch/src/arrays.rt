@@ -28,13 +28,7 @@ impl Arrays {
         ensures { result ≡ opening_arrays }
     {
         Arrays {
-            vertex: VertexArray {
-                size: 4,
-                kind: CoordinateType::Fixed,
-                stride: 0,
-                region: 0,
-                offset: 0,
-            },
+            vertex: VertexArray::new(4, CoordinateType::Fixed, 0, 0, 0),
             vertex_on: false,
             normal_on: false,
             color_on: false,
@@ -80,7 +74,7 @@ impl Arrays {
     pub fn vertex_is_fixed(&self) -> bool
         ensures { result ≡ is_fixed self.now.vertex.kind }
     {
-        matches!(self.vertex.kind, CoordinateType::Fixed)
+        matches!(self.vertex.kind(), CoordinateType::Fixed)
     }
 
     fn client_state(&mut self, array: u32, on: bool) -> Option<GlError>
@@ -130,13 +124,8 @@ impl Arrays {
         if region > LAST_REGION {
             return Some(GlError::InvalidValue);
         }
-        self.vertex = VertexArray {
-            size: size.unsigned_abs() as u8,
-            kind,
-            stride: stride.unsigned_abs(),
-            region,
-            offset,
-        };
+        let size = size.unsigned_abs() as u8;
+        self.vertex = VertexArray::new(size, kind, stride.unsigned_abs(), region, offset);
         None
     }
 }

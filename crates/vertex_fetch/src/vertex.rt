@@ -13,9 +13,8 @@ pub fn fetch(arrays: &Arrays, regions: &Regions, current: &Attribs, index: u32) 
 {
     let mut attribs = *current;
     if arrays.vertex_on {
-        attribs.pos = arrays
-            .vertex
-            .position(regions.bytes(arrays.vertex.region), index);
+        let array = &arrays.vertex;
+        attribs.pos = array.position(regions.bytes(array.region()), index);
     }
     attribs
 }

@@ -1,25 +1,86 @@
 ghost use Rattle.std.specs.Prelude.{◌≡◌, ◌+◌, ◌*◌, ◌<◌, ◌≤◌, ◌-◌, ◌^◌};
+ghost use Rattle.vertex_fetch.specs.Pointer.{IsPointer, pointer};
 ghost use Rattle.vertex_fetch.specs.Fetch.{spacing, element_start, component, position_at};
 
 use crate::coordinate_type::CoordinateType;
 use fx_arith::Fx;
+use std::marker::Model;
 
 /// Where the vertex array lies. VertexPointer sets it, and fetching reads it.
 #[derive(Clone, Copy, Debug, PartialEq, Eq)]
 pub struct VertexArray {
     /// The coordinates of a vertex, 2 to 4.
-    pub size: u8,
+    size: u8,
     /// The type of each coordinate.
-    pub kind: CoordinateType,
-    /// The bytes from one vertex to the next; 0 where they follow one another.
-    pub stride: u32,
+    kind: CoordinateType,
+    /// The bytes from one vertex to the next, below 2^31; 0 where they follow one another.
+    stride: u32,
     /// The client region, 0 to 15.
-    pub region: u32,
+    region: u32,
     /// The byte of the region at which vertex 0 begins.
-    pub offset: u32,
+    offset: u32,
+}
+
+impl Model for VertexArray {
+    ghost use Rattle.vertex_fetch.specs.Pointer.{Pointer, IsPointer};
+
+    ghost Value = { Pointer };
+
+    ghost view = { λ array. record {
+      size = array.size;
+      kind = array.kind;
+      stride = array.stride;
+      region = array.region;
+      offset = array.offset;
+    } };
+
+    ghost invariant = { λ array. IsPointer (record {
+      size = array.size;
+      kind = array.kind;
+      stride = array.stride;
+      region = array.region;
+      offset = array.offset;
+    }) };
+
+    ghost inverse = { λ pointer. record {
+      size = pointer.size;
+      kind = pointer.kind;
+      stride = pointer.stride;
+      region = pointer.region;
+      offset = pointer.offset;
+    } };
 }
 
 impl VertexArray {
+    /// `size` is 2 to 4, `stride` in bytes and below 2^31, `region` 0 to 15.
+    pub fn new(size: u8, kind: CoordinateType, stride: u32, region: u32, offset: u32) -> VertexArray
+        requires { IsPointer (pointer size kind stride region offset) }
+        ensures { result ≡ pointer size kind stride region offset }
+    {
+        VertexArray {
+            size,
+            kind,
+            stride,
+            region,
+            offset,
+        }
+    }
+
+    /// The type of each coordinate.
+    pub fn kind(&self) -> CoordinateType
+        ensures { result ≡ self.now.kind }
+    {
+        self.kind
+    }
+
+    /// The client region, 0 to 15.
+    pub fn region(&self) -> u32
+        ensures value { result ≡ self.now.region }
+        ensures to { result ≤ 15 }
+    {
+        self.region
+    }
+
     fn spacing(&self) -> u32
         ensures { result ≡ spacing self.now }
     {

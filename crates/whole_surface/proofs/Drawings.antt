@@ -3,7 +3,7 @@ use Rattle.std.proofs.Common.{◌≡◌, ◌<◌, ◌+◌, ℕ, List, [], ◌∷
 use Rattle.std.specs.List.{enumerate_from}
 use Rattle.std.proofs.lemmas.List.{same_lists, get_or-map, length-map}
 use Rattle.std.proofs.lemmas.List.FromFn.{length-enumerate_from, get_or-enumerate_from}
-use Rattle.gl_records.specs.declared.item.Item.{Item}
+use Rattle.gl_records.specs.Captured.{Captured}
 use Rattle.gl_records.specs.declared.pixel.Pixel.{Pixel}
 use Rattle.std.specs.Global.{Vec}
 use Rattle.gl_records.specs.declared.size.Size.{Size}
@@ -32,17 +32,17 @@ places_mapped {X = X} f old new same each =
     each k d k-old ∙ sym (get_or-places f old k d k-old))
 
 -- a row is drawn where each of its pixels is
-pub row_drawn : (items : List Item) (y : ℕ) (old new : List Pixel) → length new ≡ length old → ((k : ℕ) (d : Pixel) → k < length old → get_or new k d ≡ after items k y (get_or old k d))
+pub row_drawn : (items : List Captured) (y : ℕ) (old new : List Pixel) → length new ≡ length old → ((k : ℕ) (d : Pixel) → k < length old → get_or new k d ≡ after items k y (get_or old k d))
     → new ≡ drawn_row items y old
 row_drawn items y old new same each = places_mapped (λ x pixel. after items x y pixel) old new same each
 
 -- a surface is drawn where each of its rows is
-surface_drawn : (items : List Item) (old new : Surface) → length new ≡ length old → ((k : ℕ) (d : List Pixel) → k < length old → get_or new k d ≡ drawn_row items k (get_or old k d))
+surface_drawn : (items : List Captured) (old new : Surface) → length new ≡ length old → ((k : ℕ) (d : List Pixel) → k < length old → get_or new k d ≡ drawn_row items k (get_or old k d))
     → new ≡ drawn items old
 surface_drawn items old new same each = places_mapped (λ y row. drawn_row items y row) old new same each
 
 -- the same of the rows as they are kept
-pub rows_drawn : (items : List Item) (old new : List (Vec Pixel)) → length new ≡ length old → ((k : ℕ) (d : Vec Pixel) → k < length old → (get_or new k d).items ≡ drawn_row items k (get_or old k d).items)
+pub rows_drawn : (items : List Captured) (old new : List (Vec Pixel)) → length new ≡ length old → ((k : ℕ) (d : Vec Pixel) → k < length old → (get_or new k d).items ≡ drawn_row items k (get_or old k d).items)
     → rows_of new ≡ drawn items (rows_of old)
 rows_drawn items [] [] same each = refl
 rows_drawn items [] (row ∷ new) same each = absurd (omega arith)
@@ -60,20 +60,20 @@ pub drawn-nil : (surface : Surface) → drawn [] surface ≡ surface
 drawn-nil surface = sym (surface_drawn [] surface surface refl (λ k d within. row_drawn [] k (get_or surface k d) (get_or surface k d) refl (λ i e inside. refl)))
 
 -- ---- the rows and pixels of a drawn surface
-length-drawn_row : (items : List Item) (y : ℕ) (row : List Pixel) → length (drawn_row items y row) ≡ length row
+length-drawn_row : (items : List Captured) (y : ℕ) (row : List Pixel) → length (drawn_row items y row) ≡ length row
 length-drawn_row items y row = length-places (λ x pixel. after items x y pixel) row
 
-get_or-drawn_row : (items : List Item) (y : ℕ) (row : List Pixel) (k : ℕ) (d : Pixel) → k < length row → get_or (drawn_row items y row) k d ≡ after items k y (get_or row k d)
+get_or-drawn_row : (items : List Captured) (y : ℕ) (row : List Pixel) (k : ℕ) (d : Pixel) → k < length row → get_or (drawn_row items y row) k d ≡ after items k y (get_or row k d)
 get_or-drawn_row items y row k d within = get_or-places (λ x pixel. after items x y pixel) row k d within
 
-length-drawn : (items : List Item) (surface : Surface) → length (drawn items surface) ≡ length surface
+length-drawn : (items : List Captured) (surface : Surface) → length (drawn items surface) ≡ length surface
 length-drawn items surface = length-places (λ y row. drawn_row items y row) surface
 
-get_or-drawn : (items : List Item) (surface : Surface) (k : ℕ) (d : List Pixel) → k < length surface → get_or (drawn items surface) k d ≡ drawn_row items k (get_or surface k d)
+get_or-drawn : (items : List Captured) (surface : Surface) (k : ℕ) (d : List Pixel) → k < length surface → get_or (drawn items surface) k d ≡ drawn_row items k (get_or surface k d)
 get_or-drawn items surface k d within = get_or-places (λ y row. drawn_row items y row) surface k d within
 
 -- the first item acts before the others
-drawn_row-cons : (item : Item) (items : List Item) (y : ℕ) (row : List Pixel) → drawn_row (item ∷ items) y row ≡ drawn_row items y (drawn_row (item ∷ []) y row)
+drawn_row-cons : (item : Captured) (items : List Captured) (y : ℕ) (row : List Pixel) → drawn_row (item ∷ items) y row ≡ drawn_row items y (drawn_row (item ∷ []) y row)
 drawn_row-cons item items y row =
     let size = length-drawn_row (item ∷ items) y row ∙ sym (length-drawn_row (item ∷ []) y row) in
     row_drawn items y (drawn_row (item ∷ []) y row) (drawn_row (item ∷ items) y row) size (λ k d within.
@@ -81,7 +81,7 @@ drawn_row-cons item items y row =
     get_or-drawn_row (item ∷ items) y row k d inside
     ∙ ap (λ (pixel : Pixel). after items k y pixel) (sym (get_or-drawn_row (item ∷ []) y row k d inside)))
 
-pub drawn-cons : (item : Item) (items : List Item) (surface : Surface) → drawn (item ∷ items) surface ≡ drawn items (drawn (item ∷ []) surface)
+pub drawn-cons : (item : Captured) (items : List Captured) (surface : Surface) → drawn (item ∷ items) surface ≡ drawn items (drawn (item ∷ []) surface)
 drawn-cons item items surface =
     let size = length-drawn (item ∷ items) surface ∙ sym (length-drawn (item ∷ []) surface) in
     surface_drawn items (drawn (item ∷ []) surface) (drawn (item ∷ items) surface) size (λ k d within.
@@ -91,7 +91,7 @@ drawn-cons item items surface =
     ∙ ap (λ (row : List Pixel). drawn_row items k row) (sym (get_or-drawn (item ∷ []) surface k d inside)))
 
 -- drawing keeps the sides
-pub drawn-shaped : (size : Size) (items : List Item) (surface : Surface) → IsShaped size surface → IsShaped size (drawn items surface)
+pub drawn-shaped : (size : Size) (items : List Captured) (surface : Surface) → IsShaped size surface → IsShaped size (drawn items surface)
 drawn-shaped size items surface shaped = record {
   height = length-drawn items surface ∙ shaped.height;
   width = λ k d within.

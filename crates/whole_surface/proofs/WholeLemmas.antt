@@ -5,7 +5,7 @@ use Rattle.std.proofs.Common.{refl, sym, ap, inl, inr, ◌∙◌, arith}
 use Rattle.std.proofs.lemmas.Bool.{and_parts, cases_lt, false_from_ne_true}
 use Rattle.std.proofs.lemmas.Int.{ints}
 use Rattle.std.proofs.lemmas.List.{get_or-map, length-map}
-use Rattle.gl_records.specs.declared.item.Item.TheVariants.{Draw}
+use Rattle.gl_records.specs.Captured.{Draw}
 use Rattle.gl_records.specs.declared.pixel.Pixel.{Pixel}
 use Rattle.gl_records.specs.declared.pixel_box.PixelBox.{PixelBox}
 use Rattle.gl_records.specs.declared.prim.Primitive.{Primitive}

@@ -1,7 +1,7 @@
 -- Parts of a surface on which a primitive is drawn: the pixels of a box are drawn, the others are as they were.
 use Rattle.std.specs.Prelude.{◌≡◌, ℕ, ◌<◌, ◌≤◌, List, length, get_or}
 use Rattle.std.specs.Global.{Vec}
-use Rattle.gl_records.specs.declared.item.Item.TheVariants.{Draw}
+use Rattle.gl_records.specs.Captured.{Draw}
 use Rattle.gl_records.specs.declared.pixel.Pixel.{Pixel}
 use Rattle.gl_records.specs.declared.prim.Primitive.{Primitive}
 use Rattle.gl_records.specs.After.{step}

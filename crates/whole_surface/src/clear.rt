@@ -1,12 +1,12 @@
 //! A Clear on the whole surface.
 ghost use Rattle.std.specs.Prelude.{◌≡◌, ◌≤◌, [], ◌∷◌, vec_len, All};
 ghost use Rattle.gl_records.specs.Surface.{drawn, drawn_row};
-ghost use Rattle.gl_records.specs.declared.item.Item.TheVariants.{Clear};
+ghost use Rattle.gl_records.specs.Captured.{Clear};
 ghost use Rattle.whole_surface.specs.Rows.{rows_of};
 
-use crate::surface::{GREATEST_SIDE, Row};
+use crate::surface::Row;
 use fragment_ops::clear_step;
-use gl_records::ClearItem;
+use gl_records::{ClearItem, GREATEST_SIDE};
 
 /// Clears each pixel that the area holds.
 pub fn clear_rows(clear: &ClearItem, rows: &mut Vec<Row>)

@@ -4,8 +4,8 @@ ghost use Rattle.gl_records.specs.Size.{IsSize};
 ghost use Rattle.gl_records.specs.Surface.{opening_pixel, opening_surface};
 ghost use Rattle.whole_surface.specs.Rows.{rows_of};
 
-use crate::surface::{GREATEST_SIDE, Row};
-use gl_records::{Pixel, Size};
+use crate::surface::Row;
+use gl_records::{GREATEST_SIDE, Pixel, Size};
 use std::alloc::{AllocError, Global};
 
 /// The rows of a surface of this size.

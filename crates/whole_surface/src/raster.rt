@@ -4,14 +4,14 @@ ghost use Rattle.std.specs.Int.{bit_at};
 ghost use Rattle.gl_records.specs.Coverage.{covers};
 ghost use Rattle.gl_records.specs.Surface.{drawn, IsShaped};
 ghost use Rattle.gl_records.specs.Valid.{IsInRange, IsValid};
-ghost use Rattle.gl_records.specs.declared.item.Item.TheVariants.{Draw};
+ghost use Rattle.gl_records.specs.Captured.{Draw};
 ghost use Rattle.whole_surface.specs.Flat.{IsColorOf};
 ghost use Rattle.whole_surface.specs.Parts.{IsPart, IsRowPart};
 ghost use Rattle.whole_surface.specs.Rows.{rows_of};
 
 use crate::shade::{color_at, flat_color};
-use crate::surface::{GREATEST_SIDE, Row};
-use gl_records::{Prim, Size, TileRect};
+use crate::surface::Row;
+use gl_records::{GREATEST_SIDE, Prim, Size, TileRect};
 
 /// Draws the primitive on each pixel that it covers. `size` is that of the surface.
 pub fn draw_prim(prim: &Prim, size: Size, rows: &mut Vec<Row>)
@@ -40,7 +40,7 @@ struct Span {
 /// The tiles that hold the pixels `from` to `to - 1`, and no others.
 fn tiles(from: i32, to: i32) -> Span
     requires from_in { pos 0 ≤ℤ from }
-    requires to_in { to ≤ℤ pos 1024 }
+    requires to_in { to ≤ℤ pos GREATEST_SIDE }
     requires some { from <ℤ to }
     ensures first { pos (16 * result.first) ≤ℤ from }
     ensures first_meets { from <ℤ pos (16 * result.first + 16) }
@@ -90,8 +90,8 @@ fn draw_band(prim: &Prim, flat: Option<[u8; 4]>, columns: Span, band: u16, rows:
 fn draw_tile(prim: &Prim, flat: Option<[u8; 4]>, tile: TileRect, rows: &mut Vec<Row>)
     requires in_range { IsInRange prim.now }
     requires flat { IfSome flat (IsColorOf prim.now) }
-    requires column { tile.x0 < 1024 }
-    requires band { tile.y0 < 1024 }
+    requires column { tile.x0 < GREATEST_SIDE }
+    requires band { tile.y0 < GREATEST_SIDE }
     ensures { IsPart prim.now tile.x0 (tile.x0 + 16) tile.y0 (tile.y0 + 16) rows.old.items rows.new.items }
 {
     let bits = coverage::rows(prim, tile);
@@ -113,7 +113,7 @@ fn draw_tile_row(
     requires flat { IfSome flat (IsColorOf prim.now) }
     requires bits { (i : ℕ) → i < 16
         → bit_at bits i ≡ (if covers prim.now (pos (x0 + i)) (pos y) then 1 else 0) }
-    requires column { x0 < 1024 }
+    requires column { x0 < GREATEST_SIDE }
     ensures { IsPart prim.now x0 (x0 + 16) y (y + 1) rows.old.items rows.new.items }
 {
     if bits != 0 && usize::from(y) < rows.len() {
@@ -126,7 +126,7 @@ fn draw_row(prim: &Prim, flat: Option<[u8; 4]>, bits: u16, x0: u16, y: u16, row:
     requires flat { IfSome flat (IsColorOf prim.now) }
     requires bits { (i : ℕ) → i < 16
         → bit_at bits i ≡ (if covers prim.now (pos (x0 + i)) (pos y) then 1 else 0) }
-    requires column { x0 < 1024 }
+    requires column { x0 < GREATEST_SIDE }
     ensures { IsRowPart prim.now y x0 (x0 + 16) row.old.items row.new.items }
 {
     for i in 0..16u16 {

@@ -1,5 +1,6 @@
 //! The whole surface, on which each item is drawn at once.
 ghost use Rattle.std.specs.Prelude.{◌≡◌, [], ◌∷◌, IfOk};
+ghost use Rattle.gl_records.specs.Captured.{captured};
 ghost use Rattle.gl_records.specs.Size.{IsSize};
 ghost use Rattle.gl_records.specs.Surface.{drawn, opening_surface, IsShaped};
 ghost use Rattle.gl_records.specs.Valid.{IsDrawable};
@@ -15,9 +16,6 @@ use std::marker::Model;
 /// The pixels of a row of the surface, from the left.
 pub type Row = Vec<Pixel>;
 
-/// The greatest side of a surface, in pixels.
-pub const GREATEST_SIDE: usize = 1024;
-
 /// The whole surface: its rows from the bottom.
 #[derive(Drop)]
 pub struct Surface {
@@ -27,13 +25,14 @@ pub struct Surface {
 impl Model for Surface {
     ghost use Rattle.std.specs.Prelude.{◌≤◌, List, vec_len, All};
     ghost use Rattle.gl_records.specs.declared.pixel.Pixel.{Pixel};
+    ghost use Rattle.gl_records.specs.declared.size.TheConstants.{GREATEST_SIDE};
     ghost use Rattle.whole_surface.specs.Rows.{rows_of};
 
     ghost Value = { List (List Pixel) };
 
     ghost view = { λ surface. rows_of surface.rows.items };
 
-    ghost invariant = { λ surface. (vec_len surface.rows ≤ 1024) × All (λ row. vec_len row ≤ 1024) surface.rows.items };
+    ghost invariant = { λ surface. (vec_len surface.rows ≤ GREATEST_SIDE) × All (λ row. vec_len row ≤ GREATEST_SIDE) surface.rows.items };
 }
 
 impl Surface {
@@ -50,8 +49,8 @@ impl Surface {
     /// Draws the item on each pixel. `size` is the surface's.
     pub fn draw(&mut self, size: Size, item: &Item)
         requires shaped { IsShaped size self.old }
-        requires drawable { IsDrawable item.now size }
-        ensures drawn { self.new ≡ drawn (item.now ∷ []) self.old }
+        requires drawable { IsDrawable (captured item.now) size }
+        ensures drawn { self.new ≡ drawn (captured item.now ∷ []) self.old }
         ensures shaped { IsShaped size self.new }
     {
         match item {

@@ -9,8 +9,8 @@ pub product-along-requires-clause-run_small : goal.product-along-requires-clause
 product-along-requires-clause-run_small c =
     let a_fits : FitsSigned w32 c.args.a.now.y = search rules in
     let b_fits : FitsSigned w32 c.args.b.now.y = search rules in
-    let fits : FitsSigned w64 c.run-2.result = search rules in
-    let is : c.run-2.result ≡ c.args.b.now.y -ℤ c.args.a.now.y = simp to_z-of_z at c.run-2.ensures in
+    let fits : FitsSigned w64 c.span-2.result = search rules in
+    let is : c.span-2.result ≡ c.args.b.now.y -ℤ c.args.a.now.y = simp to_z-of_z at c.span-2.ensures in
     simp to_z-of_z (omega (arith, ints))
 
 pub overflow_sub-result : goal.overflow_sub-result
@@ -28,21 +28,21 @@ returns-clause-value c =
     let ay_fits : FitsSigned w32 c.args.a.now.y = search rules in
     let bx_fits : FitsSigned w32 c.args.b.now.x = search rules in
     let by_fits : FitsSigned w32 c.args.b.now.y = search rules in
-    let run_fits : FitsSigned w64 c.run.result = search rules in
-    let run_2_fits : FitsSigned w64 c.run-2.result = search rules in
+    let run_fits : FitsSigned w64 c.span.result = search rules in
+    let run_2_fits : FitsSigned w64 c.span-2.result = search rules in
     let reach_fits : FitsSigned w64 c.reach.result = search rules in
     let reach_2_fits : FitsSigned w64 c.reach-2.result = search rules in
     let across_fits : FitsSigned w64 c.product-across.result = search rules in
     let along_fits : FitsSigned w64 c.product-along.result = search rules in
     let fits : FitsSigned w64 (c.product-across.result -ℤ c.product-along.result) =
     fits_from_abs c.product-across.result c.product-along.result c.product-across.ensures.small c.product-along.ensures.small in
-    let dx = simp to_z-of_z at c.run.ensures in
-    let dy = simp to_z-of_z at c.run-2.ensures in
+    let dx = simp to_z-of_z at c.span.ensures in
+    let dy = simp to_z-of_z at c.span-2.ensures in
     let up = simp to_z-of_z at c.reach.ensures.value in
     let right = simp to_z-of_z at c.reach-2.ensures.value in
     let across = simp to_z-of_z at c.product-across.ensures.value in
     let along = simp to_z-of_z at c.product-along.ensures.value in
-    simp to_z-of_z (edge_from c.args.a.now c.args.b.now (center c.args.x) (center c.args.y) c.run.result c.run-2.result c.reach.result c.reach-2.result c.product-across.result c.product-along.result dx dy up right across along)
+    simp to_z-of_z (edge_from c.args.a.now c.args.b.now (center c.args.x) (center c.args.y) c.span.result c.span-2.result c.reach.result c.reach-2.result c.product-across.result c.product-along.result dx dy up right across along)
 
 pub returns-clause-small : goal.returns-clause-small
 returns-clause-small c =

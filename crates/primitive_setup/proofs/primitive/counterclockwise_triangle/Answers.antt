@@ -1,6 +1,6 @@
 use Rattle.std.proofs.Common.{arith}
 use Rattle.std.proofs.lemmas.Int.{ints}
-use Rattle.primitive_setup.specs.Facing.{doubled_area}
+use Rattle.gl_records.specs.Coverage.{doubled_area}
 use Rattle.primitive_setup.proofs.primitive.counterclockwise_triangle.Goals as goal
 
 pub offset_triangle-requires-clause-counterclockwise : goal.offset_triangle-requires-clause-counterclockwise

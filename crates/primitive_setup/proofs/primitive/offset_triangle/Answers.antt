@@ -4,6 +4,7 @@ use Rattle.std.proofs.lemmas.Int.{ints}
 use mir.Syntax.{w32}
 use mir.Val.{to_z, of_z}
 use Rattle.primitive_setup.specs.Bounds.{is_empty}
+use Rattle.primitive_setup.proofs.Boxes.{HoldsCenters-moved}
 use Rattle.primitive_setup.proofs.Made.{offset_triangle_is}
 use Rattle.primitive_setup.proofs.Valid.{made_valid}
 use Rattle.primitive_setup.proofs.Words.{word_is}
@@ -28,3 +29,7 @@ returns-clause-valid c =
     c.with_offset.result c.with_offset-2.result c.with_offset-3.result c.pixel_bounds-bounds.result
     c.with_offset.ensures c.with_offset-2.ensures c.with_offset-3.ensures c.pixel_bounds-bounds.ensures.value some from to
     c.requires.first c.requires.second c.requires.third (omega (arith, ints, c.requires.counterclockwise, c.requires.area_from))
+
+pub returns-clause-bounds : goal.returns-clause-bounds
+returns-clause-bounds c =
+    rw (c.with_offset.ensures, c.with_offset-2.ensures, c.with_offset-3.ensures) (HoldsCenters-moved _ _ c.args.size c.args.a.now c.args.b.now c.args.c.now c.pixel_bounds-bounds.ensures.exact)

@@ -1,5 +1,5 @@
 use Rattle.std.proofs.Common.{◌≡◌, length, ◌∷◌, [], arith}
-use Rattle.gl_records.specs.declared.item.Item.TheVariants.{Clear}
+use Rattle.gl_records.specs.Captured.{Clear}
 use Rattle.whole_surface.proofs.Drawings.{row_drawn}
 use Rattle.whole_surface.proofs.clear.clear_row.Goals as goal
 

@@ -1,6 +1,6 @@
 use Rattle.std.proofs.Common.{◌≡◌, ◌≤◌, ◌<◌, ℕ, [], ◌∷◌, get_or, vec_len}
 use Rattle.gl_records.specs.declared.pixel.Pixel.{Pixel}
-use Rattle.gl_records.specs.declared.item.Item.TheVariants.{Clear}
+use Rattle.gl_records.specs.Captured.{Clear}
 use Rattle.gl_records.specs.After.{after}
 use Rattle.whole_surface.proofs.clear.clear_row.Given as goal
 

@@ -1,6 +1,6 @@
 use Rattle.std.proofs.Common.{◌≡◌, ◌≤◌, ◌<◌, ℕ, [], ◌∷◌, get_or, vec_len, All}
 use Rattle.gl_records.specs.declared.pixel.Pixel.{Pixel}
-use Rattle.gl_records.specs.declared.item.Item.TheVariants.{Clear}
+use Rattle.gl_records.specs.Captured.{Clear}
 use Rattle.gl_records.specs.Surface.{drawn_row}
 use Rattle.std.specs.Global.{Vec as PlainVec}
 use Rattle.whole_surface.proofs.clear.clear_rows.Given as goal

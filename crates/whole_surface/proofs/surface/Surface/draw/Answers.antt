@@ -1,5 +1,5 @@
 use Rattle.std.proofs.Common.{[], ◌∷◌}
-use Rattle.gl_records.specs.declared.item.Item.TheVariants.{Draw, Clear}
+use Rattle.gl_records.specs.Captured.{Draw, Clear}
 use Rattle.gl_records.specs.Surface.{IsShaped}
 use Rattle.whole_surface.specs.Rows.{rows_of}
 use Rattle.whole_surface.proofs.Drawings.{drawn-shaped}
