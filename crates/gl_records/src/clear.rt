@@ -1,3 +1,6 @@
+ghost use Rattle.std.specs.Prelude.{◌≡◌};
+ghost use Rattle.gl_records.specs.Valid.{has_part as clear_has_part};
+
 use crate::pixel_box::PixelBox;
 
 /// A Clear that touches something (OpenGL ES 1.1.12, 4.2.3). The context makes it of the record, and the
@@ -12,4 +15,13 @@ pub struct ClearItem {
     pub depth: Option<u32>,
     /// The stencil value, and the bits of it that are written.
     pub stencil: Option<(u8, u8)>,
+}
+
+impl ClearItem {
+    /// Whether there is something to write.
+    pub fn has_part(&self) -> bool
+        ensures { result ≡ clear_has_part self.now }
+    {
+        self.color.is_some() || self.depth.is_some() || self.stencil.is_some()
+    }
 }

@@ -1,10 +1,1 @@
-pub mod Answer
-pub mod Call
-pub mod Context
-pub mod Draws
-pub mod Fault
-pub mod Frames
-pub mod Immediate
-pub mod Log
-pub mod Playing
-pub mod Vertex
+pub mod Settled

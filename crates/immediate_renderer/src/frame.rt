@@ -2,15 +2,13 @@
 ghost use Rattle.std.specs.Prelude.{◌≡◌, ◌≢◌, ◌≤◌, Err, OnOk};
 ghost use Rattle.gl_records.specs.Surface.{row_bytes, surface_bytes};
 ghost use Rattle.outer_io.specs.Faults.{Rose};
-ghost use Rattle.immediate_renderer.specs.Answer.{Puts};
-ghost use Rattle.immediate_renderer.specs.Frames.{frame_header as header_of, frame};
+ghost use Rattle.output_format.specs.Answer.{Puts};
+ghost use Rattle.output_format.specs.Frames.{frame};
 ghost use Rattle.whole_surface.specs.Rows.{rows_of};
 
-use crate::fault::Fault;
-use crate::output::put;
-use byteorder::{ByteOrder, LittleEndian};
 use gl_records::Size;
 use outer_io::Sink;
+use output_format::{Fault, frame_header, put};
 use std::alloc::{AllocError, Global};
 use whole_surface::{Row, Surface};
 
@@ -29,16 +27,6 @@ pub fn put_frame<F: Sink>(
 {
     put(frames, &frame_header(index, size))?;
     put_rows(alloc, frames, surface.rows())
-}
-
-fn frame_header(index: u32, size: Size) -> [u8; 12]
-    ensures { result ≡ header_of index size }
-{
-    let mut bytes = *b"GLF1\0\0\0\0\0\0\0\0";
-    LittleEndian::write_u32(&mut bytes[4..], index);
-    LittleEndian::write_u16(&mut bytes[8..], size.w);
-    LittleEndian::write_u16(&mut bytes[10..], size.h);
-    bytes
 }
 
 fn put_rows<F: Sink>(alloc: Global, frames: &mut F, rows: &[Row]) -> Result<(), Fault>

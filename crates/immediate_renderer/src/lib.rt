@@ -1,29 +1,18 @@
 //! The immediate renderer: it plays a trace record by record, and draws each item wholly before the next.
 //!
-//! Its contracts cite `frames_of` and `log_of` of `specs/Immediate.antt`: what the renderer writes for a list of
-//! bytes. A command is `called` of `specs/Call.antt`. `glplay` makes its one call, and tests draw by its parts.
+//! Its contract cites `frames_of` and `log_of` of `draw_front`: what the renderer writes for a list of bytes. It is
+//! the reader, the front and the surface put together. `glplay` makes its one call.
 //!
 //! ```text
-//! match play(alloc, &mut trace, &mut frames, &mut log) {
+//! match play(rt, alloc, &mut trace, &mut frames, &mut log) {
 //!     Ok(status) => status, // Done, or Refused where the trace is malformed
 //!     Err(fault) => fault.status(), // each output holds a front of what it would have held
 //! }
 //! ```
 #![tactic(auto)]
 
-mod context;
-mod draws;
-mod fault;
 mod frame;
-mod lines;
-mod output;
 mod play_trace;
-mod player;
-mod status;
-mod vertex;
+mod run;
 
-pub use draws::{opening_rules, triangle};
-pub use fault::Fault;
-pub use output::put;
 pub use play_trace::play;
-pub use status::Status;

@@ -1,0 +1,39 @@
+-- From a vertex's values to clip coordinates (OpenGL ES 1.1.12, 2.10 to 2.14): the matrices are the identity,
+-- and lighting, fog and the clip plane are off.
+use Rattle.std.specs.Prelude.{ℤ, pos, ◌+ℤ◌, ◌-ℤ◌, Bool, ◌&&◌, List, [], ◌∷◌, map, int_le, slice_index_or}
+use Rattle.fx_arith.specs.Number.{component}
+use Rattle.fx_arith.specs.declared.fx.Fx.{Fx}
+use Rattle.gl_records.specs.declared.attribs.Attribs.{Attribs}
+use Rattle.gl_records.specs.declared.clip_vertex.ClipVertex.{ClipVertex}
+use Rattle.draw_front.specs.Context.{in_unit, zero_fx, one_fx}
+
+-- of the texture coordinates s t r q these are used
+abbrev pub stq : List Fx → List Fx
+stq coordinates = slice_index_or coordinates 0 zero_fx ∷ slice_index_or coordinates 1 zero_fx ∷ slice_index_or coordinates 3 zero_fx ∷ []
+
+-- a colour, each component clamped to 0..1
+abbrev pub shown : List Fx → List Fx
+shown color = map in_unit color
+
+-- both sides show the vertex's colour
+abbrev pub clip_vertex : Attribs → ClipVertex
+clip_vertex vertex = record {
+  clip = vertex.pos;
+  plane = zero_fx;
+  front = shown vertex.color;
+  back = shown vertex.color;
+  tex = stq (slice_index_or vertex.tex 0 []) ∷ stq (slice_index_or vertex.tex 1 []) ∷ [];
+  fog = one_fx;
+}
+
+-- a clip coordinate lies within -w and w
+abbrev pub is_within : ℤ → ℤ → Bool
+is_within w at = int_le (pos 0) (w +ℤ at) && int_le (pos 0) (w -ℤ at)
+
+-- the vertex lies in the clip volume (OpenGL ES 1.1.12, 2.11); w is at least one raw unit
+abbrev pub is_in_volume : ClipVertex → Bool
+is_in_volume v =
+    int_le (pos 1) (component v.clip 3)
+    && is_within (component v.clip 3) (component v.clip 0)
+    && is_within (component v.clip 3) (component v.clip 1)
+    && is_within (component v.clip 3) (component v.clip 2)

@@ -1,0 +1,134 @@
+//! The lines of the log. Each is put, or waits to be put, in one piece.
+ghost use Rattle.std.specs.Prelude.{◌≡◌, ◌≢◌, ◌/◌, ◌%◌, ◌<◌, ◌≤◌, ◌++◌, Err, IfOk, OnOk, OnErr};
+ghost use Rattle.outer_io.specs.Faults.{Rose};
+ghost use Rattle.output_format.specs.Answer.{Puts, Stops, stop_line};
+ghost use Rattle.output_format.specs.Log.{hex_digit as hex_digit_of, hex4 as hex4_of, raise_line as raise_line_of, end_line as end_line_of, refused_line as refused_line_of, cause_name};
+
+use crate::fault::Fault;
+use crate::output::put;
+use crate::status::Status;
+use gl_tokens::GlError;
+use itoa::Buffer;
+use outer_io::Sink;
+use std::alloc::{AllocError, Global};
+use trace_reader::{Cause, ReadEnd};
+
+/// Appends `raise INDEX CODE` to lines that wait: the command of this record makes this error. Where memory is
+/// out nothing is appended.
+pub fn append_raise(
+    alloc: Global,
+    lines: &mut Vec<u8>,
+    index: u32,
+    error: GlError,
+) -> Result<(), AllocError>
+    ensures line { OnOk result (lines.new.items ≡ lines.old.items ++ raise_line_of index error) }
+    ensures memory { OnErr result (lines.new.items ≡ lines.old.items) }
+{
+    let line = raise_line(alloc, index, error)?;
+    lines.extend_from_slice(&line)
+}
+
+/// `end COUNT`: the trace was read to its end, and so many records stand before End.
+pub fn put_end<L: Sink>(alloc: Global, log: &mut L, count: u32) -> Result<(), Fault>
+    ensures line { Puts result (L.held log.old) (L.held log.new) (end_line_of count) }
+    ensures write_fault { result ≡ Err Fault.WriteFault → Rose (L.faults log.old) (L.faults log.new) }
+    ensures no_read_fault { result ≢ Err Fault.ReadFault }
+    ensures faults { L.faults log.old ≤ L.faults log.new }
+{
+    put(log, &end_line(alloc, count)?)
+}
+
+/// How a run stops where the reader answers no record: `refused INDEX OFFSET CAUSE` where the trace is malformed,
+/// and the status Refused; after a fault of the reader's, that fault, and no line.
+pub fn put_stop<L: Sink>(alloc: Global, log: &mut L, end: ReadEnd) -> Result<Status, Fault>
+    ensures line { Puts result (L.held log.old) (L.held log.new) (stop_line end) }
+    ensures stops { Stops end result }
+    ensures read_fault { result ≡ Err Fault.ReadFault → end ≡ ReadEnd.ReadFault }
+    ensures write_fault { result ≡ Err Fault.WriteFault → Rose (L.faults log.old) (L.faults log.new) }
+    ensures faults { L.faults log.old ≤ L.faults log.new }
+{
+    match end {
+        ReadEnd::Malformed {
+            index,
+            offset,
+            cause,
+        } => {
+            put(log, &refused_line(alloc, index, offset, cause)?)?;
+            Ok(Status::Refused)
+        }
+        ReadEnd::ReadFault => Err(Fault::ReadFault),
+        ReadEnd::NoMemory => Err(Fault::NoMemory),
+    }
+}
+
+fn raise_line(alloc: Global, index: u32, error: GlError) -> Result<Vec<u8>, AllocError>
+    ensures { IfOk result (λ line. line.items ≡ raise_line_of index error) }
+{
+    let mut line = Vec::from_slice(alloc, b"raise ")?;
+    line.extend_from_slice(Buffer::new().format(index).as_bytes())?;
+    line.extend_from_slice(b" 0x")?;
+    line.extend_from_slice(&hex4(error.code()))?;
+    line.extend_from_slice(b"\n")?;
+    Ok(line)
+}
+
+fn end_line(alloc: Global, count: u32) -> Result<Vec<u8>, AllocError>
+    ensures { IfOk result (λ line. line.items ≡ end_line_of count) }
+{
+    let mut line = Vec::from_slice(alloc, b"end ")?;
+    line.extend_from_slice(Buffer::new().format(count).as_bytes())?;
+    line.extend_from_slice(b"\n")?;
+    Ok(line)
+}
+
+fn refused_line(alloc: Global, index: u32, offset: u32, cause: Cause) -> Result<Vec<u8>, AllocError>
+    ensures { IfOk result (λ line. line.items ≡ refused_line_of index offset cause) }
+{
+    let mut line = Vec::from_slice(alloc, b"refused ")?;
+    line.extend_from_slice(Buffer::new().format(index).as_bytes())?;
+    line.extend_from_slice(b" ")?;
+    line.extend_from_slice(Buffer::new().format(offset).as_bytes())?;
+    line.extend_from_slice(b" ")?;
+    line.extend_from_slice(name(cause).as_bytes())?;
+    line.extend_from_slice(b"\n")?;
+    Ok(line)
+}
+
+fn name(cause: Cause) -> &'static str
+    ensures { result.now ≡ cause_name cause }
+{
+    match cause {
+        Cause::Short => "Short",
+        Cause::BadMagic => "BadMagic",
+        Cause::BadSize => "BadSize",
+        Cause::NoEnd => "NoEnd",
+        Cause::BadZero => "BadZero",
+        Cause::UnknownOp => "UnknownOp",
+        Cause::TooLong => "TooLong",
+        Cause::BadLength => "BadLength",
+        Cause::Trailing => "Trailing",
+    }
+}
+
+/// The last four hexadecimal digits of a code, in upper case.
+fn hex4(code: u32) -> [u8; 4]
+    ensures { result ≡ hex4_of code }
+{
+    [
+        hex_digit(code / 4096 % 16),
+        hex_digit(code / 256 % 16),
+        hex_digit(code / 16 % 16),
+        hex_digit(code % 16),
+    ]
+}
+
+fn hex_digit(digit: u32) -> u8
+    requires { digit < 16 }
+    ensures { result ≡ hex_digit_of digit }
+{
+    if digit < 10 {
+        b'0' + digit as u8
+    } else {
+        b'A' + (digit as u8 - 10)
+    }
+}
