@@ -1,5 +1,5 @@
 -- A command that makes an error changes nothing but the lines and the count of records.
-use Rattle.std.proofs.Common.{◌≡◌, ◌∙◌, ◌+◌, ℕ, Bool, true, false, cond, List, [], ◌∷◌, Option, Some, None, Result, Ok, Err, OnOk, refl, sym, ap}
+use Rattle.std.proofs.Common.{◌≡◌, ◌∙◌, ◌+◌, ℕ, Bool, false, cond, List, [], ◌∷◌, Option, Some, None, Result, Ok, Err, OnOk, refl, sym, ap}
 use Rattle.gl_records.specs.declared.rec.Rec.{Rec}
 use Rattle.gl_records.specs.declared.rec.Rec.TheVariants.{End, Swap, ClientBytes, VertexPointer, EnableClientState, DisableClientState, Color4x, DrawArrays, ClearColorx, Clear}
 use Rattle.gl_records.specs.Captured.{Captured}

@@ -1,5 +1,5 @@
 -- One command: the context after it, its error, what it draws, the chunk and the lines that it makes.
-use Rattle.std.specs.Prelude.{ℕ, ℤ, List, [], ◌∷◌, Option, Some, None}
+use Rattle.std.specs.Prelude.{ℕ, List, [], ◌∷◌, Option, Some, None}
 use Rattle.gl_records.specs.declared.rec.Rec.{Rec}
 use Rattle.gl_records.specs.declared.rec.Rec.TheVariants.{End, Swap, ClientBytes, VertexPointer, EnableClientState, DisableClientState, Color4x, DrawArrays, ClearColorx, Clear}
 use Rattle.gl_records.specs.declared.size.Size.{Size}

@@ -1,5 +1,5 @@
 -- The items of a record that are still to come, as the front keeps them.
-use Rattle.std.specs.Prelude.{ℕ, ◌+◌, ◌*◌, ◌-◌, ◌/◌, ◌^◌, ◌≤◌, List, [], ◌∷◌, if◌then◌else◌, unsigned_abs}
+use Rattle.std.specs.Prelude.{◌+◌, ◌*◌, ◌-◌, ◌/◌, ◌^◌, ◌≤◌, List, [], ◌∷◌, if◌then◌else◌, unsigned_abs}
 use Rattle.std.specs.List.{range_with_len}
 use Rattle.gl_records.specs.declared.rec.Rec.{Rec}
 use Rattle.gl_records.specs.declared.rec.Rec.TheVariants as rec

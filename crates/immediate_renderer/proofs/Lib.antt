@@ -1,5 +1,5 @@
-pub mod Growth
-pub mod Refusals
+pub mod Chunks
+pub mod Headers
+pub mod Rows
 pub mod SoFar
 pub mod Steps
-pub mod Triangles

@@ -1,32 +1,52 @@
 -- A trace that is played up to a record.
-use Rattle.std.proofs.Common.{◌≡◌, ◌∙◌, ℕ, suc, ◌+◌, false, List, [], ◌++◌, length, Option, Some, None, IfSome, IsSomeAnd, Ok, Err, refl, sym, ap, subst, append_assoc, arith}
+use Rattle.std.proofs.Common.{◌≡◌, ◌∙◌, ℕ, suc, ◌+◌, Bool, true, false, List, [], ◌∷◌, ◌++◌, length, Option, Some, None, IfSome, IsSomeAnd, Result, Ok, Err, refl, sym, ap, subst, append_assoc, arith}
+use Rattle.std.specs.Prelude.{option_to_list}
 use Rattle.std.specs.Io.KnownBytes.{Appends}
 use Rattle.std.proofs.KnownBytes.{Appends-trans, Appends-nil}
+use Rattle.std.proofs.lemmas.List.{append-nil}
 use Rattle.gl_records.specs.declared.rec.Rec.{Rec}
 use Rattle.gl_records.specs.declared.rec.Rec.TheVariants.{End}
 use Rattle.outer_io.specs.Bytes.{AppendsFront}
 use Rattle.trace_reader.specs.declared.cause.Cause.{Cause}
+use Rattle.trace_reader.specs.declared.cause.ReadEnd.{ReadEnd}
 use Rattle.trace_reader.specs.declared.cause.ReadEnd.TheVariants as read
 use Rattle.trace_reader.specs.Progress.{Progress}
 use Rattle.trace_reader.specs.Reading.{Reads, tail_of}
 use Rattle.trace_reader.specs.Trace.{Tail, Ending, Ended, Malformed, with_record, is_end}
-use Rattle.immediate_renderer.specs.Immediate.{Output, then_output, call_output, immediate, last_output, output_of_tail}
-use Rattle.immediate_renderer.specs.Log.{end_line, refused_line, last_line}
-use Rattle.immediate_renderer.specs.Playing.{Playing, call, ran}
-use Rattle.immediate_renderer.proofs.Growth.{front_after, front_goes_on}
+use Rattle.trace_reader.proofs.Outcomes.{is_end-end}
+use Rattle.draw_front.specs.Call.{Called}
+use Rattle.draw_front.specs.Immediate.{Output, joined, immediate, output_of_tail}
+use Rattle.output_format.specs.Answer.{Puts, Stops, stop_line}
+use Rattle.output_format.specs.declared.fault.Fault.{Fault}
+use Rattle.output_format.specs.declared.status.Status.{Status}
+use Rattle.output_format.specs.Log.{end_line, refused_line, last_line}
+use Rattle.draw_front.specs.Playing.{Playing, call, ran}
+use Rattle.output_format.proofs.Growth.{front_after, front_goes_on}
 
-then_output-assoc : (a b c : Output) → then_output (then_output a b) c ≡ then_output a (then_output b c)
-then_output-assoc a b c =
-    ap (λ (f : List ℕ). let o : Output = record { frames = f; log = (a.log ++ b.log) ++ c.log } in o) (append_assoc a.frames b.frames c.frames)
-    ∙ ap (λ (l : List ℕ). let o : Output = record { frames = a.frames ++ (b.frames ++ c.frames); log = l } in o) (append_assoc a.log b.log c.log)
+-- what a command makes, as bytes
+abbrev pub call_output : Called → Output
+call_output done = record { frames = joined (option_to_list done.chunk); log = joined done.lines }
+
+-- one output after the other
+abbrev pub then_output : Output → Output → Output
+then_output first later = record { frames = first.frames ++ later.frames; log = first.log ++ later.log }
+
+joined-append : (first later : List (List ℕ)) → joined (first ++ later) ≡ joined first ++ joined later
+joined-append [] later = refl
+joined-append (piece ∷ first) later = ap (λ (l : List ℕ). piece ++ l) (joined-append first later) ∙ sym (append_assoc piece (joined first) (joined later))
 
 -- what a tail makes is what its first record makes, and then what the rest makes
 pub output_of_tail-with_record : (now : Playing) (rec : Rec) (tail : Tail) → output_of_tail now (with_record rec tail) ≡ then_output (call_output (call now rec)) (output_of_tail (ran now rec) tail)
 output_of_tail-with_record now rec tail =
     let count : now.index + suc (length tail.records) ≡ now.index + 1 + length tail.records = omega arith in
     let rest = immediate (ran now rec) tail.records in
-    ap (λ (n : ℕ). then_output (then_output (call_output (call now rec)) rest) (last_output n tail.ending)) count
-    ∙ then_output-assoc (call_output (call now rec)) rest (last_output (now.index + 1 + length tail.records) tail.ending)
+    let chunks = option_to_list (call now rec).chunk in
+    let lines = (call now rec).lines in
+    let made : List ℕ → List ℕ → Output = λ frames log. record { frames = frames; log = log } in
+    ap (λ (n : ℕ). made (joined (chunks ++ rest.chunks)) (joined (lines ++ rest.lines) ++ last_line n tail.ending)) count
+    ∙ ap (λ (f : List ℕ). made f (joined (lines ++ rest.lines) ++ last_line (now.index + 1 + length tail.records) tail.ending)) (joined-append chunks rest.chunks)
+    ∙ ap (λ (l : List ℕ). made (joined chunks ++ joined rest.chunks) (l ++ last_line (now.index + 1 + length tail.records) tail.ending)) (joined-append lines rest.lines)
+    ∙ ap (made (joined chunks ++ joined rest.chunks)) (append_assoc (joined lines) (joined rest.lines) (last_line (now.index + 1 + length tail.records) tail.ending))
 
 -- of all that is to be put, a front was put, and this is left
 pub record IsSoFar (all left : Output) (f g l m : Option (List ℕ)) : Type 0 where
@@ -80,7 +100,7 @@ next_tail : (now next : Progress) (rec : Rec) (rest : List ℕ) (after : Option 
 next_tail now next rec rest after other reads = rw other at reads
 
 pub played_more : (reader now next : Progress) (player then : Playing) (known left after f g h l m n : Option (List ℕ)) (rec : Rec) → IsPlayed reader now player then known left f g l m
-    → is_end rec ≡ false → IfSome left (λ rest. Reads now rest (Ok rec) next after) → Appends g h (call then rec).chunk → Appends m n (call then rec).lines
+    → is_end rec ≡ false → IfSome left (λ rest. Reads now rest (Ok rec) next after) → Appends g h (joined (option_to_list (call then rec).chunk)) → Appends m n (joined (call then rec).lines)
     → IsPlayed reader next player (ran then rec) known after f h l n
 played_more reader now next player then None left after f g h l m n rec played other reads frames log = record { so_far = tt; same_ending = tt }
 played_more reader now next player then (Some bytes) None after f g h l m n rec played other reads frames log = absurd played.so_far
@@ -93,7 +113,7 @@ played_more reader now next player then (Some bytes) (Some rest) (Some later) f 
     }
 
 pub run_front : (reader now next : Progress) (player then : Playing) (known left after f g h l m n : Option (List ℕ)) (rec : Rec) → IsPlayed reader now player then known left f g l m
-    → is_end rec ≡ false → IfSome left (λ rest. Reads now rest (Ok rec) next after) → AppendsFront g h (call then rec).chunk → AppendsFront m n (call then rec).lines
+    → is_end rec ≡ false → IfSome left (λ rest. Reads now rest (Ok rec) next after) → AppendsFront g h (joined (option_to_list (call then rec).chunk)) → AppendsFront m n (joined (call then rec).lines)
     → IfSome known (λ bytes. AppendsFront f h (output_of_tail player (tail_of reader bytes)).frames) × IfSome known (λ bytes. AppendsFront l n (output_of_tail player (tail_of reader bytes)).log)
 run_front reader now next player then None left after f g h l m n rec played other reads frames log = (tt, tt)
 run_front reader now next player then (Some bytes) None after f g h l m n rec played other reads frames log = absurd played.so_far
@@ -153,3 +173,74 @@ refused_front reader now next player then None left after f g l m n index offset
 refused_front reader now next player then (Some bytes) None after f g l m n index offset cause played reads line = absurd played.so_far
 refused_front reader now next player then (Some bytes) (Some rest) after f g l m n index offset cause played reads line =
     last_front then (tail_of now rest) _ (Malformed (record { index = index; offset = offset; cause = cause })) f g l m n played.so_far reads line
+
+-- ---- End makes nothing
+grown_no_more : (a b c : Option (List ℕ)) (x : List ℕ) → Appends a b x → Appends b c [] → Appends a c x
+grown_no_more a b c x grew none = subst (Appends a c) (append-nil x) (Appends-trans a b c x [] grew none)
+
+front_of_none : (a b : Option (List ℕ)) → AppendsFront a b [] → Appends a b []
+front_of_none a b ([], back, is, grew) = grew
+front_of_none a b (x ∷ front, back, is, grew) = absurd cc
+
+-- where nothing more was put
+pub still_played : (reader now : Progress) (player then : Playing) (known left f g h l m n : Option (List ℕ)) → IsPlayed reader now player then known left f g l m
+    → Appends g h [] → Appends m n [] → IsPlayed reader now player then known left f h l n
+still_played reader now player then None left f g h l m n played frames log = record { so_far = tt; same_ending = tt }
+still_played reader now player then (Some bytes) None f g h l m n played frames log = absurd played.so_far
+still_played reader now player then (Some bytes) (Some rest) f g h l m n played frames log =
+    let so = played.so_far in
+    record {
+      so_far = record {
+        frames = so.frames;
+        log = so.log;
+        all_frames = so.all_frames;
+        all_log = so.all_log;
+        frames_put = grown_no_more f g h so.frames so.frames_put frames;
+        log_put = grown_no_more l m n so.log so.log_put log;
+      };
+      same_ending = played.same_ending;
+    }
+
+no_chunk : (then : Playing) (rec : Rec) → rec ≡ End → joined (option_to_list (call then rec).chunk) ≡ []
+no_chunk then rec last = ap (λ (r : Rec). joined (option_to_list (call then r).chunk)) last
+
+no_line : (then : Playing) (rec : Rec) → rec ≡ End → joined (call then rec).lines ≡ []
+no_line then rec last = ap (λ (r : Rec). joined (call then r).lines) last
+
+pub played_to_end : (reader now : Progress) (player then : Playing) (known left f g h l m n : Option (List ℕ)) (rec : Rec) → IsPlayed reader now player then known left f g l m → is_end rec ≡ true
+    → Appends g h (joined (option_to_list (call then rec).chunk)) → Appends m n (joined (call then rec).lines) → IsPlayed reader now player then known left f h l n
+played_to_end reader now player then known left f g h l m n rec played last frames log =
+    let end = is_end-end rec last in
+    still_played reader now player then known left f g h l m n played (subst (Appends g h) (no_chunk then rec end) frames) (subst (Appends m n) (no_line then rec end) log)
+
+-- where the reader answers no record, its line is the last, or it has none
+pub stop_log : (reader now next : Progress) (player then : Playing) (known left after f g l m n : Option (List ℕ)) (end : ReadEnd) (result : Result Status Fault) → IsPlayed reader now player then known left f g l m
+    → IfSome left (λ rest. Reads now rest (Err end) next after) → Puts result m n (stop_line end) → Stops end result → IfSome known (λ bytes. Puts result l n (output_of_tail player (tail_of reader bytes)).log)
+stop_log reader now next player then known left after f g l m n (read.Malformed index offset cause) (Ok status) played reads line stops =
+    refused_whole reader now next player then known left after f g l m n index offset cause played reads line
+stop_log reader now next player then known left after f g l m n (read.Malformed index offset cause) (Err fault) played reads line stops =
+    refused_front reader now next player then known left after f g l m n index offset cause played reads line
+stop_log reader now next player then known left after f g l m n read.ReadFault (Ok status) played reads line stops = absurd cc
+stop_log reader now next player then known left after f g l m n read.ReadFault (Err fault) played reads line stops =
+    (played_front reader now player then known left f g l n (still_played reader now player then known left f g g l m n played (Appends-nil g) (front_of_none m n line))).1
+stop_log reader now next player then known left after f g l m n read.NoMemory (Ok status) played reads line stops = absurd cc
+stop_log reader now next player then known left after f g l m n read.NoMemory (Err fault) played reads line stops =
+    (played_front reader now player then known left f g l n (still_played reader now player then known left f g g l m n played (Appends-nil g) (front_of_none m n line))).1
+
+-- after a fault in a record, whichever it is
+record_front_by : (reader now next : Progress) (player then : Playing) (known left after f g h l m n : Option (List ℕ)) (rec : Rec) (last : Bool) → is_end rec ≡ last → IsPlayed reader now player then known left f g l m
+    → IfSome left (λ rest. Reads now rest (Ok rec) next after) → AppendsFront g h (joined (option_to_list (call then rec).chunk)) → AppendsFront m n (joined (call then rec).lines)
+    → IfSome known (λ bytes. AppendsFront f h (output_of_tail player (tail_of reader bytes)).frames) × IfSome known (λ bytes. AppendsFront l n (output_of_tail player (tail_of reader bytes)).log)
+record_front_by reader now next player then known left after f g h l m n rec false other played reads frames log =
+    run_front reader now next player then known left after f g h l m n rec played other reads frames log
+record_front_by reader now next player then known left after f g h l m n rec true last played reads frames log =
+    let end = is_end-end rec last in
+    let no_frames = front_of_none g h (subst (AppendsFront g h) (no_chunk then rec end) frames) in
+    let no_lines = front_of_none m n (subst (AppendsFront m n) (no_line then rec end) log) in
+    played_front reader now player then known left f h l n (still_played reader now player then known left f g h l m n played no_frames no_lines)
+
+pub record_front : (reader now next : Progress) (player then : Playing) (known left after f g h l m n : Option (List ℕ)) (rec : Rec) → IsPlayed reader now player then known left f g l m
+    → IfSome left (λ rest. Reads now rest (Ok rec) next after) → AppendsFront g h (joined (option_to_list (call then rec).chunk)) → AppendsFront m n (joined (call then rec).lines)
+    → IfSome known (λ bytes. AppendsFront f h (output_of_tail player (tail_of reader bytes)).frames) × IfSome known (λ bytes. AppendsFront l n (output_of_tail player (tail_of reader bytes)).log)
+record_front reader now next player then known left after f g h l m n rec played reads frames log =
+    record_front_by reader now next player then known left after f g h l m n rec (is_end rec) refl played reads frames log

@@ -13,6 +13,6 @@
 
 mod frame;
 mod play_trace;
-mod run;
+mod player;
 
 pub use play_trace::play;

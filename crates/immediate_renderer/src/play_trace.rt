@@ -4,20 +4,21 @@ ghost use Rattle.outer_io.specs.Faults.{Rose};
 ghost use Rattle.trace_reader.specs.Reading.{tail_of};
 ghost use Rattle.trace_reader.specs.Trace.{trace_of};
 ghost use Rattle.trace_reader.specs.declared.stage.Stage.TheVariants.{Reading};
-ghost use Rattle.immediate_renderer.specs.Answer.{Puts, Plays, PlaysOutcome};
-ghost use Rattle.immediate_renderer.specs.Immediate.{output_of_tail, frames_of, log_of};
+ghost use Rattle.output_format.specs.Answer.{Puts, Plays, PlaysOutcome};
+ghost use Rattle.draw_front.specs.Immediate.{output_of_tail, frames_of, log_of};
+ghost use Rattle.immediate_renderer.specs.Settled.{IsSettled, playing};
 
-use crate::fault::Fault;
-use crate::lines::{put_end, put_refused};
 use crate::player::Player;
-use crate::status::Status;
-use gl_records::Rec;
+use draw_front::Step;
 use outer_io::{Sink, Source};
+use output_format::{Fault, Status, put_end, put_stop};
 use std::alloc::Global;
-use trace_reader::{ReadEnd, Reader};
+use std::thread::Threads;
+use trace_reader::Reader;
 
 /// Plays the trace: puts the frames and the log of the immediate renderer, or after a fault a front of each.
-pub fn play<S: Source, F: Sink, L: Sink>(
+pub fn play<R: Threads, S: Source, F: Sink, L: Sink>(
+    rt: &R,
     alloc: Global,
     trace: &mut S,
     frames: &mut F,
@@ -36,25 +37,15 @@ pub fn play<S: Source, F: Sink, L: Sink>(
 {
     let (mut reader, size) = match Reader::start(alloc, trace) {
         Ok(begun) => begun,
-        Err(
-            ReadEnd::Malformed {
-                index,
-                offset,
-                cause,
-            },
-        ) => {
-            put_refused(alloc, log, index, offset, cause)?;
-            return Ok(Status::Refused);
-        }
-        Err(ReadEnd::ReadFault) => return Err(Fault::ReadFault),
-        Err(ReadEnd::NoMemory) => return Err(Fault::NoMemory),
+        Err(end) => return put_stop(alloc, log, end),
     };
     let mut player = Player::new(alloc, size)?;
-    play_records(alloc, &mut reader, &mut player, trace, frames, log)
+    play_records(rt, alloc, &mut reader, &mut player, trace, frames, log)
 }
 
 /// Puts what the rest of the trace makes, its last line included.
-fn play_records<S: Source, F: Sink, L: Sink>(
+fn play_records<R: Threads, S: Source, F: Sink, L: Sink>(
+    rt: &R,
     alloc: Global,
     reader: &mut Reader,
     player: &mut Player,
@@ -63,12 +54,14 @@ fn play_records<S: Source, F: Sink, L: Sink>(
     log: &mut L,
 ) -> Result<Status, Fault>
     requires reading { reader.old.stage ≡ Reading }
-    requires counted { 8 * player.old.index ≤ reader.old.offset }
+    requires counted { 8 * player.old.front.index ≤ reader.old.offset }
+    requires settled { IsSettled player.old.front player.old.surface }
+    requires size { player.old.size ≡ player.old.front.size }
     requires within { reader.old.offset ≤ 2 ^ 28 }
     ensures frames { IfSome (S.rest trace.old) (λ bytes.
-        Puts result (F.held frames.old) (F.held frames.new) (output_of_tail player.old (tail_of reader.old bytes)).frames) }
+        Puts result (F.held frames.old) (F.held frames.new) (output_of_tail (playing player.old.front player.old.surface) (tail_of reader.old bytes)).frames) }
     ensures log { IfSome (S.rest trace.old) (λ bytes.
-        Puts result (L.held log.old) (L.held log.new) (output_of_tail player.old (tail_of reader.old bytes)).log) }
+        Puts result (L.held log.old) (L.held log.new) (output_of_tail (playing player.old.front player.old.surface) (tail_of reader.old bytes)).log) }
     ensures ending { IfSome (S.rest trace.old) (λ bytes. Plays (tail_of reader.old bytes).ending result (S.rest trace.new)) }
     ensures ended { IfOk result (λ status. (status ≡ Status.Done) ⊎ (status ≡ Status.Refused)) }
     ensures read_fault { result ≡ Err Fault.ReadFault → Rose (S.faults trace.old) (S.faults trace.new) }
@@ -81,25 +74,11 @@ fn play_records<S: Source, F: Sink, L: Sink>(
     'records: loop {
         let rec = match reader.next(trace) {
             Ok(rec) => rec,
-            Err(
-                ReadEnd::Malformed {
-                    index,
-                    offset,
-                    cause,
-                },
-            ) => {
-                put_refused(alloc, log, index, offset, cause)?;
-                return Ok(Status::Refused);
-            }
-            Err(ReadEnd::ReadFault) => return Err(Fault::ReadFault),
-            Err(ReadEnd::NoMemory) => return Err(Fault::NoMemory),
+            Err(end) => return put_stop(alloc, log, end),
         };
-        match rec {
-            Rec::End => {
-                put_end(alloc, log, player.index())?;
-                return Ok(Status::Done);
-            }
-            rec => player.run(rec, frames, log)?,
+        if let Step::Ended = player.run(rt, rec, frames, log)? {
+            put_end(alloc, log, player.front.index())?;
+            return Ok(Status::Done);
         }
     }
 }

@@ -1,7 +1,7 @@
 use Rattle.std.proofs.lemmas.Result.{err_from_is_err_and}
 use Rattle.gl_records.specs.Surface.{surface_bytes}
-use Rattle.immediate_renderer.specs.Frames.{frame_header}
-use Rattle.immediate_renderer.proofs.Growth.{front_goes_on, puts_after}
+use Rattle.output_format.specs.Frames.{frame_header}
+use Rattle.output_format.proofs.Growth.{front_goes_on, puts_after}
 use Rattle.immediate_renderer.proofs.frame.put_frame.Goals as goal
 
 pub returns-in_err-put-clause-frame : goal.returns-in_err-put-clause-frame

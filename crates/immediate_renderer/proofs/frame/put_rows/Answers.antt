@@ -3,7 +3,8 @@ use Rattle.std.specs.Global.{Vec}
 use Rattle.gl_records.specs.declared.pixel.Pixel.{Pixel}
 use Rattle.std.proofs.lemmas.Result.{err_from_is_err_and}
 use Rattle.gl_records.specs.Surface.{row_bytes}
-use Rattle.immediate_renderer.proofs.Growth.{front_whole, front_goes_on, front_after, surface_split}
+use Rattle.output_format.proofs.Growth.{front_whole, front_goes_on, front_after}
+use Rattle.immediate_renderer.proofs.Rows.{surface_split}
 use Rattle.immediate_renderer.proofs.frame.put_rows.Goals as goal
 
 pub returns-in_err-write_row-clause-rows : goal.returns-in_err-write_row-clause-rows

@@ -1,0 +1,21 @@
+-- What a record's step says of the record.
+use Rattle.std.proofs.Common.{◌≡◌, ◌≢◌, ◌∙◌, ◌+◌, true, false, cond, refl, ap, arith}
+use Rattle.gl_records.specs.declared.rec.Rec.{Rec}
+use Rattle.trace_reader.specs.Trace.{is_end}
+use Rattle.draw_front.specs.declared.step.Step.{Step}
+use Rattle.draw_front.specs.declared.step.Step.TheVariants.{Ended}
+use Rattle.draw_front.specs.Playing.{Playing, ran}
+use Rattle.immediate_renderer.specs.Settled.{is_ended, after_record}
+
+pub is_ended-other : (step : Step) → step ≢ Ended → is_ended step ≡ false
+is_ended-other Ended other = absurd (other refl)
+is_ended-other _ other = refl
+
+-- End is not counted
+pub counted-end : (now next : Playing) (rec : Rec) → next ≡ after_record now rec → is_end rec ≡ true → next.index ≡ now.index
+counted-end now next rec is last =
+    let none : now.index + 0 ≡ now.index = omega arith in
+    ap (λ (p : Playing). p.index) is ∙ ap (λ b. now.index + cond b 0 1) last ∙ none
+
+pub after_record-plain : (now : Playing) (rec : Rec) → is_end rec ≡ false → after_record now rec ≡ ran now rec
+after_record-plain now rec plain = ap (λ b. let next : Playing = record (ran now rec) { index = now.index + cond b 0 1 } in next) plain

@@ -1,0 +1,34 @@
+use Rattle.std.proofs.Common.{◌≡◌, ◌∙◌, List, [], ◌∷◌, refl, sym, ap, subst}
+use Rattle.gl_records.specs.declared.size.Size.{Size}
+use Rattle.gl_records.specs.Captured.{Captured, captured}
+use Rattle.gl_records.specs.Surface.{IsShaped, drawn}
+use Rattle.draw_front.specs.Collecting.{Collecting}
+use Rattle.whole_surface.proofs.Drawings.{drawn-nil, drawn-cons}
+use Rattle.immediate_renderer.proofs.player.Player.draw_items.Goals as goal
+
+pub items-preserved : goal.items-preserved
+items-preserved g c =
+    let surface = c.items.self.surface in
+    let later = c.next_item.new.self.left in
+    let item = captured c.in-Some.item in
+    let left : c.items.self.front.left ≡ item ∷ later = rw c.in-Some.is at c.in_ok-item.ensures.items in
+    let others = c.in_ok-item.ensures.others in
+    let size : c.items.self.size ≡ c.next_item.new.self.size =
+    c.items.invariant.size ∙ c.requires.size ∙ sym (ap (λ (front : Collecting). front.size) c.items.invariant.front) ∙ sym (ap (λ (front : Collecting). front.size) others) in
+    record {
+      rest = ap (drawn later) c.draw.ensures.drawn
+          ∙ sym (drawn-cons item later surface)
+          ∙ ap (λ (items : List Captured). drawn items surface) (sym left)
+          ∙ c.items.invariant.rest;
+      front = others ∙ ap (λ (front : Collecting). let next : Collecting = record front { left = later } in next) c.items.invariant.front;
+      shaped = subst (λ (size : Size). IsShaped size c.draw.new.self) size c.draw.ensures.shaped;
+      size = c.items.invariant.size;
+    }
+
+pub returns-clause-drawn : goal.returns-clause-drawn
+returns-clause-drawn g c =
+    let surface = c.items.self.surface in
+    let later : c.items.self.front.left ≡ c.next_item.new.self.left = rw c.in_default.is at c.in_ok-item.ensures.items in
+    let end = rw c.in_default.is at c.in_ok-item.ensures.end in
+    let none : c.items.self.front.left ≡ [] = later ∙ end refl in
+    sym (drawn-nil surface) ∙ ap (λ (items : List Captured). drawn items surface) (sym none) ∙ c.items.invariant.rest
