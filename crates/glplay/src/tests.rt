@@ -1,10 +1,7 @@
-//! Whole runs, byte for byte.
+//! What more than bytes shows: command lines, calls that fail, readers and writers of std. Whole runs of bytes are
+//! the cases of the crate `trace_cases`.
 
-mod arrays;
-mod draw_errors;
+mod command_lines;
 mod faults;
 mod interpolation;
-mod pictures;
-mod refusals;
 mod support;
-mod triangles;

@@ -1,14 +1,15 @@
 //! The one call of the program.
 ghost use Rattle.std.specs.Prelude.{◌≡◌, ◌⊎◌, ◌≤◌, [], Some, IfSome};
 ghost use Rattle.outer_io.specs.Faults.{Rose};
-ghost use Rattle.immediate_renderer.specs.Answer.{IsAnswer, Grew, status_of};
-ghost use Rattle.immediate_renderer.specs.Immediate.{frames_of, log_of};
-ghost use Rattle.immediate_renderer.specs.Log.{bad_words_line};
+ghost use Rattle.output_format.specs.Answer.{IsAnswer, Grew, status_of};
+ghost use Rattle.draw_front.specs.Immediate.{frames_of, log_of};
+ghost use Rattle.output_format.specs.Log.{bad_words_line};
 ghost use Rattle.glplay.specs.Words.{IsPlay};
 
 use crate::words::is_play;
-use immediate_renderer::{Status, play, put};
+use immediate_renderer::play;
 use outer_io::{Gate, Sink, Source};
+use output_format::{Status, put};
 use std::alloc::Global;
 use std::thread::Threads;
 
@@ -20,7 +21,7 @@ use std::thread::Threads;
 /// object's count of faults rose in this call; want of memory is free. After either, each output has grown
 /// by a front of what it would have grown by.
 pub fn glplay<R: Threads, S: Source, F: Sink, L: Sink, G: Gate>(
-    _rt: &R,
+    rt: &R,
     alloc: Global,
     words: &[String],
     trace: &mut S,
@@ -50,7 +51,7 @@ pub fn glplay<R: Threads, S: Source, F: Sink, L: Sink, G: Gate>(
     ensures log_faults { L.faults log.old ≤ L.faults log.new }
 {
     if is_play(words) {
-        match play(alloc, trace, frames, log) {
+        match play(rt, alloc, trace, frames, log) {
             Ok(status) => status,
             Err(fault) => fault.status(),
         }

@@ -1,8 +1,8 @@
 //! Faults of reading and of writing: what was written before them is kept.
 
-use super::support::{RED, Trace, run};
+use super::support::{DRAWN, RED, REFUSED, TWO_FRAMES, run};
 use crate::top_call::glplay;
-use immediate_renderer::Status;
+use output_format::Status;
 use outer_io::{FromRead, MemSink, MemSource, NoGate, ToWrite};
 use std::alloc::{AllocError, Global};
 use std::io;
@@ -113,27 +113,10 @@ fn fail_in_turn<R: Threads + AllocGlobal + Abort>(
 
 #[test]
 fn each_call_fails_in_turn(rt: HostRuntime) -> Result<(), Fail> {
-    let mut two_frames = Trace::new(rt.alloc(), 3, 2)?;
-    two_frames.swap()?;
-    two_frames.clear_color([65536, 0, 0, 65536])?;
-    two_frames.clear(0x4000)?;
-    two_frames.clear(0x8000)?;
-    two_frames.swap()?;
-    two_frames.end()?;
-    fail_in_turn(&rt, "play", &two_frames.bytes)?;
-    let mut drawn = Trace::new(rt.alloc(), 3, 2)?;
-    drawn.places(&[-65536, -65536, 65536, -65536, -65536, 65536])?;
-    drawn.draw(4, 0, 3)?;
-    drawn.draw(7, 0, 3)?;
-    drawn.swap()?;
-    drawn.end()?;
-    fail_in_turn(&rt, "play", &drawn.bytes)?;
-    let mut refused = Trace::new(rt.alloc(), 3, 2)?;
-    refused.swap()?;
-    refused.clear(1)?;
-    refused.bytes.push(0)?;
-    fail_in_turn(&rt, "play", &refused.bytes)?;
-    fail_in_turn(&rt, "played", &two_frames.bytes)?;
+    for bytes in [TWO_FRAMES.as_slice(), &DRAWN, &REFUSED] {
+        fail_in_turn(&rt, "play", bytes)?;
+    }
+    fail_in_turn(&rt, "played", &TWO_FRAMES)?;
     Ok(())
 }
 

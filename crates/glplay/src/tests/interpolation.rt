@@ -3,7 +3,7 @@
 
 use fx_arith::Fx;
 use gl_records::{ClipVertex, Item, Size};
-use immediate_renderer::{opening_rules, triangle};
+use draw_front::{opening_rules, triangle};
 use std::test::Fail;
 use whole_surface::Surface;
 

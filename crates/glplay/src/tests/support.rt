@@ -1,20 +1,10 @@
-//! Traces that are put together, and runs over memory.
-ghost use Rattle.std.specs.Prelude.{◌≤◌, length};
+//! Traces as bytes, and runs over memory.
 
 use crate::top_call::glplay;
-use immediate_renderer::Status;
+use output_format::Status;
 use outer_io::{NeverSink, NeverSource, NoGate};
-use std::alloc::{AllocError, Global};
+use std::alloc::AllocError;
 use std::thread::Threads;
-
-/// 1 as a GLfixed.
-pub const ONE: i32 = 65536;
-/// The type of GLfixed components.
-pub const FIXED: i32 = 0x140c;
-/// The array of vertices' places.
-pub const VERTEX_ARRAY: i32 = 0x8074;
-/// The mode of separate triangles.
-pub const TRIANGLES: i32 = 4;
 
 /// A trace of 1 by 1: a red clear colour, Clear, Swap, End.
 pub const RED: [u8; 60] = [
@@ -25,76 +15,40 @@ pub const RED: [u8; 60] = [
     1, 0, 0, 0, 0, 0, 0, 0, // End
 ];
 
-/// A trace in the making.
-#[derive(Drop)]
-pub struct Trace {
-    pub bytes: Vec<u8>,
-}
+/// A trace of 3 by 2 with two frames, and a Clear with an error between them.
+pub const TWO_FRAMES: [u8; 80] = [
+    0x47, 0x4c, 0x54, 0x31, 3, 0, 2, 0, // GLT1, 3 by 2
+    2, 0, 0, 0, 0, 0, 0, 0, // Swap
+    0x62, 0, 0, 0, 16, 0, 0, 0, 0, 0, 1, 0, 0, 0, 0, 0, 0, 0, 0, 0, 0, 0, 1, 0, // ClearColorx
+    0x65, 0, 0, 0, 4, 0, 0, 0, 0, 0x40, 0, 0, // Clear
+    0x65, 0, 0, 0, 4, 0, 0, 0, 0, 0x80, 0, 0, // Clear, of no buffer
+    2, 0, 0, 0, 0, 0, 0, 0, // Swap
+    1, 0, 0, 0, 0, 0, 0, 0, // End
+];
 
-impl Trace {
-    pub fn new(alloc: Global, w: u16, h: u16) -> Result<Trace, AllocError> {
-        let mut bytes = Vec::from_slice(alloc, b"GLT1")?;
-        bytes.extend_from_slice(&w.to_le_bytes())?;
-        bytes.extend_from_slice(&h.to_le_bytes())?;
-        Ok(Trace { bytes })
-    }
+/// A trace of 3 by 2 with a triangle over half of it, and a draw with an error.
+pub const DRAWN: [u8; 140] = [
+    0x47, 0x4c, 0x54, 0x31, 3, 0, 2, 0, // GLT1, 3 by 2
+    0x10, 0, 0, 0, 28, 0, 0, 0, 0, 0, 0, 0, // ClientBytes, of region 0
+    0, 0, 0xff, 0xff, 0, 0, 0xff, 0xff, // -1 -1
+    0, 0, 1, 0, 0, 0, 0xff, 0xff, // 1 -1
+    0, 0, 0xff, 0xff, 0, 0, 1, 0, // -1 1
+    0x11, 0, 0, 0, 20, 0, 0, 0, 2, 0, 0, 0, 0x0c, 0x14, 0, 0, // VertexPointer, 2 FIXED
+    0, 0, 0, 0, 0, 0, 0, 0, 0, 0, 0, 0, // stride, region, offset
+    0x15, 0, 0, 0, 4, 0, 0, 0, 0x74, 0x80, 0, 0, // EnableClientState
+    0x1d, 0, 0, 0, 12, 0, 0, 0, 4, 0, 0, 0, 0, 0, 0, 0, 3, 0, 0, 0, // DrawArrays TRIANGLES 0 3
+    0x1d, 0, 0, 0, 12, 0, 0, 0, 7, 0, 0, 0, 0, 0, 0, 0, 3, 0, 0, 0, // DrawArrays of no mode
+    2, 0, 0, 0, 0, 0, 0, 0, // Swap
+    1, 0, 0, 0, 0, 0, 0, 0, // End
+];
 
-    /// A record with these words, sixty-four at most.
-    pub fn record(&mut self, opcode: u16, words: &[i32]) -> Result<(), AllocError>
-        requires { length words.now ≤ 64 }
-    {
-        let length = 4 * words.len() as u32;
-        self.head(opcode, length)?;
-        for word in words {
-            self.bytes.extend_from_slice(&word.to_le_bytes())?;
-        }
-        Ok(())
-    }
-
-    /// The first eight bytes of a record.
-    pub fn head(&mut self, opcode: u16, length: u32) -> Result<(), AllocError> {
-        self.bytes.extend_from_slice(&opcode.to_le_bytes())?;
-        self.bytes.extend_from_slice(&[0, 0])?;
-        self.bytes.extend_from_slice(&length.to_le_bytes())
-    }
-
-    pub fn clear_color(&mut self, color: [i32; 4]) -> Result<(), AllocError> {
-        self.record(0x62, &color)
-    }
-
-    /// Packed places x y of vertices, in GLfixed, in region 0, and the vertex array over them, switched on.
-    pub fn places(&mut self, places: &[i32]) -> Result<(), AllocError>
-        requires { length places.now ≤ 32 }
-    {
-        self.head(0x10, 4 + 4 * places.len() as u32)?;
-        self.bytes.extend_from_slice(&[0; 4])?;
-        for place in places {
-            self.bytes.extend_from_slice(&place.to_le_bytes())?;
-        }
-        self.record(0x11, &[2, FIXED, 0, 0, 0])?;
-        self.record(0x15, &[VERTEX_ARRAY])
-    }
-
-    pub fn color(&mut self, color: [i32; 4]) -> Result<(), AllocError> {
-        self.record(0x19, &color)
-    }
-
-    pub fn draw(&mut self, mode: i32, first: i32, count: i32) -> Result<(), AllocError> {
-        self.record(0x1d, &[mode, first, count])
-    }
-
-    pub fn clear(&mut self, mask: i32) -> Result<(), AllocError> {
-        self.record(0x65, &[mask])
-    }
-
-    pub fn swap(&mut self) -> Result<(), AllocError> {
-        self.record(0x02, &[])
-    }
-
-    pub fn end(&mut self) -> Result<(), AllocError> {
-        self.record(0x01, &[])
-    }
-}
+/// A trace of 3 by 2 that ends within the head of its third record.
+pub const REFUSED: [u8; 29] = [
+    0x47, 0x4c, 0x54, 0x31, 3, 0, 2, 0, // GLT1, 3 by 2
+    2, 0, 0, 0, 0, 0, 0, 0, // Swap
+    0x65, 0, 0, 0, 4, 0, 0, 0, 1, 0, 0, 0, // Clear, of no buffer
+    0, // a byte
+];
 
 /// What a run over memory left.
 #[derive(Drop)]
@@ -132,9 +86,4 @@ pub fn run<R: Threads + AllocGlobal>(
         frames,
         log,
     })
-}
-
-/// Plays the bytes of a trace.
-pub fn play<R: Threads + AllocGlobal>(rt: &R, bytes: &[u8]) -> Result<Played, AllocError> {
-    run(rt, &["play"], bytes)
 }
