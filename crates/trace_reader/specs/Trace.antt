@@ -8,7 +8,9 @@ use Rattle.gl_records.specs.declared.size.Size.{Size}
 use Rattle.trace_reader.specs.declared.cause.Cause.{Cause}
 use Rattle.trace_reader.specs.declared.cause.Cause.TheVariants.{Short, BadMagic, BadSize, NoEnd, BadZero, UnknownOp, TooLong, BadLength, Trailing}
 use Rattle.trace_reader.specs.Numbers.{number_at}
-use Rattle.trace_reader.specs.Table.{Layout, row, allows, record_from}
+use Rattle.trace_reader.specs.Command.{Layout}
+use Rattle.trace_reader.specs.Shape.{allows}
+use Rattle.trace_reader.specs.Table.{row, record_from}
 
 -- where a trace is malformed: the whole records before that place, the bytes before it, and why
 pub record Refusal : Type 0 where
