@@ -9,6 +9,7 @@ use std::marker::Model;
 
 /// A command as it is written into a trace: its opcode, the words that its payload begins with, and the bytes
 /// behind them, which are lent by the record. Contracts see it as these three.
+#[derive(Drop)]
 pub struct Spelled<'a> {
     opcode: u16,
     words: Words,
@@ -30,7 +31,7 @@ impl<'a> Model for Spelled<'a> {
 
 impl<'a> Spelled<'a> {
     /// A command of these words, at most 16, and of this piece.
-    pub fn new(opcode: u16, front: &[u32], piece: &'a [u8]) -> Spelled<'a>
+    pub(crate) fn new(opcode: u16, front: &[u32], piece: &'a [u8]) -> Spelled<'a>
         requires { length front.now ≤ 16 }
         ensures { result ≡ record { opcode = opcode; words = front.now; piece = piece.now } }
     {
@@ -45,13 +46,14 @@ impl<'a> Spelled<'a> {
     }
 
     /// A command of these words alone, at most 16.
-    pub fn of_words(opcode: u16, front: &[u32]) -> Spelled<'a>
+    pub(crate) fn of_words(opcode: u16, front: &[u32]) -> Spelled<'a>
         requires { length front.now ≤ 16 }
         ensures { result ≡ record { opcode = opcode; words = front.now; piece = [] } }
     {
         Spelled::new(opcode, front, b"")
     }
 
+    /// The opcode.
     pub fn opcode(&self) -> u16
         ensures { result ≡ self.now.opcode }
     {

@@ -26,6 +26,12 @@ returns-in_err-put_refused-in-Err-Malformed-clause-log g c =
     let left = g.S.Source.rest c.next.new.source in
     rw p.1 (refused_front _ _ c.next.new.self _ _ _ _ left _ _ _ _ _ at.index at.offset at.cause c.records.invariant.played (trace c.records.invariant.reading) c.in_err-put_refused-in-Err-Malformed.ensures.line)
 
+pub returns-in_err-put_end-in-End-clause-frames : goal.returns-in_err-put_end-in-End-clause-frames
+returns-in_err-put_end-in-End-clause-frames g c =
+    let p = err_from_is_err_and c.from_residual-in_err-put_end-in-End.result c.from_residual-in_err-put_end-in-End.ensures.1 in
+    let fronts = played_front _ _ _ _ _ _ _ _ _ _ c.records.invariant.played in
+    rw p.1 fronts.0
+
 pub returns-in_err-put_end-in-End-clause-log : goal.returns-in_err-put_end-in-End-clause-log
 returns-in_err-put_end-in-End-clause-log g c =
     let p = err_from_is_err_and c.from_residual-in_err-put_end-in-End.result c.from_residual-in_err-put_end-in-End.ensures.1 in
