@@ -40,11 +40,11 @@ refused-plain context _ error is = refl
 
 -- a call with an error, whose context is the one before it
 after_refusal : (now : Collecting) (items : List Captured) (answer : Context × Option GlError) (last : Bool) (error : GlError) → answer.1 ≡ Some error → answer.0 ≡ now.context → now.left ≡ [] → last ≡ false
-    → (let next : Collecting = record (after_call now (answered now.index items answer)) { index = now.index + cond last 0 1 } in next) ≡ with_refusal now error
+    → (let next : Collecting = record (after_call now (answered now.index items answer)) { index = cond last now.index (now.index + 1) } in next) ≡ with_refusal now error
 after_refusal now items (context, None) last error is same none plain = absurd cc
 after_refusal now items (context, Some found) last error is same none plain =
     let made : GlError → Context → List Captured → Bool → Collecting = λ error context left last.
-    record (with_lines now (raise_line now.index error ∷ [])) { context = context; left = left; index = now.index + cond last 0 1 } in
+    record (with_lines now (raise_line now.index error ∷ [])) { context = context; left = left; index = cond last now.index (now.index + 1) } in
     let found_is : found ≡ error = cc in
     ap (λ (e : GlError). made e context [] last) found_is
     ∙ ap (λ (context : Context). made error context [] last) same

@@ -1,12 +1,12 @@
 -- The front, as its callers see it: the collecting side between two of its calls.
-use Rattle.std.specs.Prelude.{ℕ, ◌+◌, Bool, false, List, [], ◌∷◌, ◌++◌, length, Option, Some, None, if◌then◌else◌}
+use Rattle.std.specs.Prelude.{ℕ, ◌+◌, Bool, false, List, [], ◌∷◌, ◌++◌, length, Option, Some, None}
 use Rattle.gl_records.specs.declared.rec.Rec.{Rec}
 use Rattle.gl_records.specs.declared.rec.Rec.TheVariants.{Swap, DrawArrays, Clear, End}
 use Rattle.gl_records.specs.declared.size.Size.{Size}
 use Rattle.gl_records.specs.Captured.{Captured}
 use Rattle.gl_tokens.specs.declared.gl_error.GlError.{GlError}
 use Rattle.output_format.specs.Log.{raise_line}
-use Rattle.trace_reader.specs.Trace.{is_end}
+use Rattle.trace_reader.specs.Reading.{index_after}
 use Rattle.draw_front.specs.declared.step.Step.{Step}
 use Rattle.draw_front.specs.declared.step.Step.TheVariants.{Quiet, Items, Present, Ended}
 use Rattle.draw_front.specs.Call.{Called, asked}
@@ -58,7 +58,7 @@ after_call now done = record (with_lines now done.lines) { context = done.contex
 
 -- a record was run, unless it is End
 abbrev pub counted : Collecting → Rec → Collecting
-counted now rec = record now { index = now.index + (if is_end rec then 0 else 1) }
+counted now rec = record now { index = index_after now.index rec }
 
 abbrev pub stepped : Collecting → Rec → Collecting
 stepped now rec = counted (after_call now (asked_of now rec)) rec

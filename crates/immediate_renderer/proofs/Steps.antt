@@ -14,8 +14,7 @@ is_ended-other _ other = refl
 -- End is not counted
 pub counted-end : (now next : Playing) (rec : Rec) → next ≡ after_record now rec → is_end rec ≡ true → next.index ≡ now.index
 counted-end now next rec is last =
-    let none : now.index + 0 ≡ now.index = omega arith in
-    ap (λ (p : Playing). p.index) is ∙ ap (λ b. now.index + cond b 0 1) last ∙ none
+    ap (λ (p : Playing). p.index) is ∙ ap (λ b. cond b now.index (now.index + 1)) last
 
 pub after_record-plain : (now : Playing) (rec : Rec) → is_end rec ≡ false → after_record now rec ≡ ran now rec
-after_record-plain now rec plain = ap (λ b. let next : Playing = record (ran now rec) { index = now.index + cond b 0 1 } in next) plain
+after_record-plain now rec plain = ap (λ b. let next : Playing = record (ran now rec) { index = cond b now.index (now.index + 1) } in next) plain

@@ -1,10 +1,10 @@
 -- The immediate renderer between two records: the front and the surface.
-use Rattle.std.specs.Prelude.{◌≡◌, ℕ, ◌+◌, Bool, true, false, List, [], if◌then◌else◌}
+use Rattle.std.specs.Prelude.{◌≡◌, ℕ, Bool, true, false, List, []}
 use Rattle.gl_records.specs.declared.rec.Rec.{Rec}
 use Rattle.gl_records.specs.declared.size.Size.{Size}
 use Rattle.gl_records.specs.Surface.{Surface, IsShaped}
 use Rattle.output_format.specs.Frames.{frame}
-use Rattle.trace_reader.specs.Trace.{is_end}
+use Rattle.trace_reader.specs.Reading.{index_after}
 use Rattle.draw_front.specs.declared.step.Step.{Step}
 use Rattle.draw_front.specs.declared.step.Step.TheVariants.{Present, Ended}
 use Rattle.draw_front.specs.Collecting.{Collecting}
@@ -22,7 +22,7 @@ pub record IsSettled (front : Collecting) (surface : Surface) : Type 0 where
 
 -- after a record; End is not counted
 abbrev pub after_record : Playing → Rec → Playing
-after_record now rec = record (ran now rec) { index = now.index + (if is_end rec then 0 else 1) }
+after_record now rec = record (ran now rec) { index = index_after now.index rec }
 
 abbrev pub is_ended : Step → Bool
 is_ended Ended = true

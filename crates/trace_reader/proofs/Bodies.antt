@@ -1,159 +1,200 @@
--- A record's body: the row of its opcode, the conditions on its length, then its words and its piece.
-use Rattle.std.proofs.Common.{◌≡◌, ◌≤◌, ◌<◌, ◌⊎◌, ◌+◌, ◌-◌, ◌*◌, ℕ, Bool, true, false, ◌||◌, ltb, List, length, take, drop, Option, Some, None, IfSome, Ok, Err, refl, sym, ap, ◌∙◌, inl, inr, arith}
-use Rattle.std.proofs.lemmas.Bool.{le-ltb, lt-ltb}
-use Rattle.std.proofs.lemmas.List.{take-take, drop-take, drop-drop, length-drop}
+-- A record's body: the first bytes of its payload, the row of its opcode, the conditions on its length, and then the
+-- bytes behind its words.
+use Rattle.std.proofs.Common.{◌≡◌, ◌≤◌, ◌<◌, ◌+◌, ◌-◌, ◌*◌, min, ℕ, Bool, true, false, cond, not, ◌||◌, eqb, ltb, List, [], ◌++◌, length, take, drop, replicate, Option, Some, None, IfSome, Result, Ok, Err, refl, sym, ap, subst, ◌∙◌, inl, inr, arith}
+use Rattle.std.specs.Io.KnownBytes.{Consumes, IsAtEnd}
+use Rattle.std.proofs.Math.Seq.{take-append-add, drop-append-add}
+use Rattle.std.proofs.lemmas.Bool.{le-ltb, lt-ltb, ltb-false, eqb-true, eqb-false, leb-true}
+use Rattle.std.proofs.lemmas.List.{take_all, drop-append-le, length-append, length-drop, length-take-le}
+use Rattle.byteorder.specs.Endian.{little_number, IsRead}
 use Rattle.gl_records.specs.declared.rec.Rec.{Rec}
 use Rattle.trace_reader.specs.declared.cause.Cause.{Cause}
-use Rattle.trace_reader.specs.declared.cause.Cause.TheVariants.{Short, TooLong}
+use Rattle.trace_reader.specs.declared.cause.Cause.TheVariants.{Short, TooLong, BadLength}
 use Rattle.trace_reader.specs.declared.record.Head.{Head}
 use Rattle.trace_reader.specs.declared.record.Stop.{Stop}
 use Rattle.trace_reader.specs.declared.record.Stop.TheVariants.{Malformed, Failed, NoMemory}
-use Rattle.trace_reader.specs.declared.table.Shape.{Shape}
-use Rattle.trace_reader.specs.Numbers.{words}
-use Rattle.trace_reader.specs.Steps.{WordsRead, PieceRead, BodyRead}
-use Rattle.trace_reader.specs.Table.{Layout, row, with_words, words_of, has_piece, allows, with_piece, record_from}
-use Rattle.trace_reader.specs.Trace.{greatest_payload, greatest_trace, body}
+use Rattle.trace_reader.specs.declared.shape.Shape.{Shape}
+use Rattle.trace_reader.specs.declared.shape.Shape.TheVariants.{Exactly, AtLeast, Words}
+use Rattle.trace_reader.specs.Command.{Layout, with_words}
+use Rattle.trace_reader.specs.Numbers.{words as words_in}
+use Rattle.trace_reader.specs.Shape.{words_of, allows}
+use Rattle.trace_reader.specs.Steps.{length_checked, BehindRead, BodyRead}
+use Rattle.trace_reader.specs.Table.{row, with_piece, record_from}
+use Rattle.trace_reader.specs.Trace.{greatest_payload, greatest_trace, refused_if, body}
+use Rattle.trace_reader.proofs.Pieces.{words_taken}
 
 -- ---- what a body is
 
-is_long : (offset len : ℕ) → (greatest_payload < len) ⊎ (greatest_trace < offset + 8 + len) → (ltb greatest_payload len || ltb greatest_trace (offset + 8 + len)) ≡ true
-is_long offset len long =
-    elim long [
-      | inl payload ↦ or_left _ _ (lt-ltb _ _ payload)
-      | inr trace ↦ or_right _ _ (lt-ltb _ _ trace)
-    ]
-  where
-    or_left : (a b : Bool) → a ≡ true → (a || b) ≡ true
-    or_left a b is = rw is refl
+-- the conditions on a payload's length, which it meets
+pub record IsAllowed (offset len : ℕ) (shape : Shape) : Type 0 where
+  pub short : len ≤ greatest_payload
+  pub ends : offset + 8 + len ≤ greatest_trace
+  pub allowed : allows shape len ≡ true
 
-    or_right : (a b : Bool) → b ≡ true → (a || b) ≡ true
-    or_right true b is = refl
-    or_right false b is = is
-
-body-too_long : (offset len : ℕ) (rest : List ℕ) (layout : Layout) → (greatest_payload < len) ⊎ (greatest_trace < offset + 8 + len) → body offset len rest (Some layout) ≡ Err TooLong
-body-too_long offset len rest layout long = rw (is_long offset len long) refl
-
-pub body-passes : (offset len : ℕ) (rest : List ℕ) (layout : Layout) → len ≤ greatest_payload → offset + 8 + len ≤ greatest_trace → allows layout.0 len ≡ true → len ≤ length rest
-    → body offset len rest (Some layout) ≡ Ok (record_from layout (take len rest), 8 + len)
-body-passes offset len rest layout short ends allowed whole =
-    let a : ltb greatest_payload len ≡ false = le-ltb _ _ short in
-    let b : ltb greatest_trace (offset + 8 + len) ≡ false = le-ltb _ _ ends in
+pub body-passes : (offset len : ℕ) (rest : List ℕ) (layout : Layout) → IsAllowed offset len layout.0 → len ≤ length rest → body offset len rest (Some layout) ≡ Ok (record_from layout (take len rest), 8 + len)
+body-passes offset len rest layout met whole =
+    let a : ltb greatest_payload len ≡ false = le-ltb _ _ met.short in
+    let b : ltb greatest_trace (offset + 8 + len) ≡ false = le-ltb _ _ met.ends in
     let c : ltb (length rest) len ≡ false = le-ltb _ _ whole in
-    rw (a, b, allowed, c) refl
+    rw (a, b, met.allowed, c) refl
 
-body-short : (offset len : ℕ) (rest : List ℕ) (layout : Layout) → len ≤ greatest_payload → offset + 8 + len ≤ greatest_trace → allows layout.0 len ≡ true → length rest < len
-    → body offset len rest (Some layout) ≡ Err Short
-body-short offset len rest layout short ends allowed part =
-    let a : ltb greatest_payload len ≡ false = le-ltb _ _ short in
-    let b : ltb greatest_trace (offset + 8 + len) ≡ false = le-ltb _ _ ends in
+body-short : (offset len : ℕ) (rest : List ℕ) (layout : Layout) → IsAllowed offset len layout.0 → length rest < len → body offset len rest (Some layout) ≡ Err Short
+body-short offset len rest layout met part =
+    let a : ltb greatest_payload len ≡ false = le-ltb _ _ met.short in
+    let b : ltb greatest_trace (offset + 8 + len) ≡ false = le-ltb _ _ met.ends in
     let c : ltb (length rest) len ≡ true = lt-ltb _ _ part in
-    rw (a, b, allowed, c) refl
+    rw (a, b, met.allowed, c) refl
+
+abbrev checked : Bool → Bool → Bool → Result (Unit {0}) Stop
+checked long ends allowed = cond long (Err (Malformed TooLong)) (cond ends (Err (Malformed TooLong)) (cond allowed (Ok tt) (Err (Malformed BadLength))))
+
+checked-ok : (long ends allowed : Bool) → checked long ends allowed ≡ Ok tt → (long ≡ false) × (ends ≡ false) × (allowed ≡ true)
+checked-ok true ends allowed is = absurd cc
+checked-ok false true allowed is = absurd cc
+checked-ok false false true is = (refl, refl, refl)
+checked-ok false false false is = absurd cc
+
+is_allowed : (offset len : ℕ) (shape : Shape) → length_checked offset len shape ≡ Ok tt → IsAllowed offset len shape
+is_allowed offset len shape is =
+    let each = checked-ok (ltb greatest_payload len) (ltb greatest_trace (offset + 8 + len)) (allows shape len) is in
+    record { short = ltb-false _ _ each.0; ends = ltb-false _ _ each.1; allowed = each.2 }
+
+abbrev stopped : Cause → Result (Unit {0}) Stop
+stopped cause = Err (Malformed cause)
+
+cause_is : (a b : Cause) → stopped a ≡ stopped b → a ≡ b
+cause_is a b is = cc
+
+checked-refused : (long ends allowed : Bool) (cause : Cause) (later : Result (Rec × ℕ) Cause) → checked long ends allowed ≡ Err (Malformed cause) → refused_if (long || ends) TooLong (refused_if (not allowed) BadLength later) ≡ Err cause
+checked-refused true ends allowed cause later is = ap Err (cause_is TooLong cause is)
+checked-refused false true allowed cause later is = ap Err (cause_is TooLong cause is)
+checked-refused false false true cause later is = absurd cc
+checked-refused false false false cause later is = ap Err (cause_is BadLength cause is)
+
+body-refused : (offset len : ℕ) (rest : List ℕ) (layout : Layout) (cause : Cause) → length_checked offset len layout.0 ≡ Err (Malformed cause) → body offset len rest (Some layout) ≡ Err cause
+body-refused offset len rest layout cause is = checked-refused (ltb greatest_payload len) (ltb greatest_trace (offset + 8 + len)) (allows layout.0 len) cause _ is
+
+-- a payload that is allowed has the words that its shape begins with
+words_within : (shape : Shape) (len : ℕ) → allows shape len ≡ true → 4 * words_of shape ≤ len
+words_within (Exactly count) len allowed = omega (arith, eqb-true _ _ allowed)
+words_within (AtLeast count) len allowed = leb-true _ _ allowed
+words_within Words len allowed = omega arith
 
 -- ---- a row that the code was given
 
--- a row that was found with some words is the opcode's
-pub record IsRow (opcode : ℕ) (shape : Shape) : Type 0 where
-  pub layout : Layout
-  pub found : row opcode ≡ Some layout
-  pub shaped : layout.0 ≡ shape
+-- the row of an opcode that was found with these words
+record IsRow (opcode : ℕ) (n : List ℕ) (shape : Shape) (rec : Rec) : Type 0 where
+  layout : Layout
+  found : row opcode ≡ Some layout
+  shaped : layout.0 ≡ shape
+  makes : layout.1 n ≡ rec
 
-is_row : (opcode : ℕ) (n : List ℕ) (found : Option Layout) (x : Shape × Rec) → row opcode ≡ found → with_words n found ≡ Some x → IsRow opcode x.0
-is_row opcode n None x here given = absurd cc
-is_row opcode n (Some layout) x here given = let same : (layout.0, layout.1 n) ≡ x = cc in record { layout = layout; found = here; shaped = ap (λ (y : Shape × Rec). y.0) same }
+is_row : (opcode : ℕ) (n : List ℕ) (found : Option Layout) (shape : Shape) (rec : Rec) → row opcode ≡ found → with_words n found ≡ Some (shape, rec) → IsRow opcode n shape rec
+is_row opcode n None shape rec here given = absurd cc
+is_row opcode n (Some layout) shape rec here given =
+    let same : (layout.0, layout.1 n) ≡ (shape, rec) = cc in
+    record { layout = layout; found = here; shaped = ap (λ (y : Shape × Rec). y.0) same; makes = ap (λ (y : Shape × Rec). y.1) same }
 
--- and its record is made of these words
-fields_are : (n : List ℕ) (found : Option Layout) (layout : Layout) (x : Shape × Rec) → found ≡ Some layout → with_words n found ≡ Some x → layout.1 n ≡ x.1
-fields_are n found layout x here given = let same : (layout.0, layout.1 n) ≡ x = cc in ap (λ (y : Shape × Rec). y.1) same
+-- ---- the first bytes of a payload
 
--- the conditions that a payload's length has met, where it is read; its words take so many bytes
-pub record IsAllowed (offset : ℕ) (head : Head) (shape : Shape) (front : ℕ) : Type 0 where
-  pub short : head.length ≤ greatest_payload
-  pub ends : offset + 8 + head.length ≤ greatest_trace
-  pub allowed : allows shape head.length ≡ true
-  pub front_is : front ≡ 4 * words_of shape
-  pub within : front ≤ head.length
-  pub none : has_piece shape ≡ false → head.length ≡ 4 * words_of shape
+-- the first bytes of a payload of `len` bytes: as many as the words take at most, and whether the source had them
+pub record IsFront (len : ℕ) (front : List ℕ) (whole : Bool) (rest later : List ℕ) : Type 0 where
+  pub size : length front ≡ min len 64
+  pub parts : whole ≡ true → rest ≡ front ++ later
+  pub short : whole ≡ false → length rest < len
 
-pub allowed_by : (offset : ℕ) (head : Head) (shape : Shape) (count : ℕ) → head.length ≤ greatest_payload → offset + 8 + head.length ≤ greatest_trace → allows shape head.length ≡ true → 4 * words_of shape ≤ head.length
-    → (has_piece shape ≡ false → head.length ≡ 4 * words_of shape) → count ≡ words_of shape → IsAllowed offset head shape (4 * count)
-allowed_by offset head shape count short ends allowed within none count_is =
-    record { short = short; ends = ends; allowed = allowed; front_is = ap (λ (m : ℕ). 4 * m) count_is; within = rw count_is within; none = none }
+front_is : (len taken first : ℕ) (front rest later : List ℕ) (whole : Bool) → first ≡ min len 64 → length front ≡ first → taken ≤ length front → rest ≡ take taken front ++ later → (taken < length front → later ≡ []) → eqb taken first ≡ whole
+    → IsFront len front whole rest later
+front_is len taken first front rest later true least size within took end test =
+    let all : take taken front ≡ front = take_all taken front (omega (arith, eqb-true _ _ test)) in
+    record { size = size ∙ least; parts = λ is. took ∙ ap (λ (own : List ℕ). own ++ later) all; short = λ is. absurd cc }
+front_is len taken first front rest later false least size within took end test =
+    let part : taken < length front = omega (arith, eqb-false _ _ test) in
+    let sum : length rest ≡ length (take taken front) + length later = ap length took ∙ length-append (take taken front) later in
+    record { size = size ∙ least; parts = λ is. absurd cc; short = λ is. omega (arith, length-take-le taken front within, ap length (end part)) }
+
+-- ---- the record of a payload that was read in parts
+
+-- the piece: what was read with the words, and what was read behind it
+piece_is : (len words : ℕ) (front later piece : List ℕ) → length front ≡ min len 64 → words ≤ len → words ≤ 64 → piece ≡ drop words front ++ take (len - words - length (drop words front)) later → drop words (take len (front ++ later)) ≡ piece
+piece_is len words front later piece size within few is =
+    let own : length (drop words front) ≡ length front - words = length-drop words front in
+    let more : len - words - length (drop words front) ≡ len - length front = omega arith in
+    let sum : len ≡ length front + (len - length front) = omega arith in
+    let payload : take len (front ++ later) ≡ front ++ take (len - length front) later = ap (λ (m : ℕ). take m (front ++ later)) sum ∙ take-append-add front later (len - length front) in
+    ap (drop words) payload
+    ∙ drop-append-le words front (take (len - length front) later) (omega arith)
+    ∙ sym (is ∙ ap (λ (m : ℕ). drop words front ++ take m later) more)
+
+-- the record and what is left, where the payload was read whole
+body_ok : (offset : ℕ) (head : Head) (n piece front rest later : List ℕ) (shape : Shape) (rec : Rec) (whole : Bool) (past : ℕ) (left : Option (List ℕ)) → with_words n (row head.opcode) ≡ Some (shape, rec) → words_of shape ≤ 16
+    → IsFront head.length front whole rest later → length n ≡ 16 → IsRead little_number 4 (front ++ drop past (replicate 64 0)) n → BehindRead offset head.length shape front whole later (Ok piece) left
+    → BodyRead offset head rest (Ok (with_piece piece rec, 8 + head.length)) left
+body_ok offset head n piece front rest later shape rec whole past left given few begun sixteen read behind =
+    let len = head.length in
+    let is = is_row head.opcode n _ shape rec refl given in
+    let met = is_allowed offset len shape behind.0 in
+    let words = 4 * words_of shape in
+    let within : words ≤ len = words_within shape len met.allowed in
+    let size : length front ≡ min len 64 = begun.size in
+    let parts : rest ≡ front ++ later = begun.parts behind.1 in
+    let own : length (drop words front) ≡ length front - words = length-drop words front in
+    let enough : len - words ≤ length (drop words front) + length later = behind.2.0 in
+    let all : len ≤ length rest = rw parts (omega (arith, length-append front later)) in
+    let passes = body-passes offset len rest is.layout (rw is.shaped met) all in
+    let words_are : n ≡ words_in (take len rest) = words_taken len past front later n size sixteen read ∙ ap (λ (bytes : List ℕ). words_in (take len bytes)) (sym parts) in
+    let piece_same : drop words (take len rest) ≡ piece = ap (λ (bytes : List ℕ). drop words (take len bytes)) parts ∙ piece_is len words front later piece size within (omega arith) behind.2.1 in
+    let made : record_from is.layout (take len rest) ≡ with_piece piece rec =
+    ap (λ (s : Shape). with_piece (drop (4 * words_of s) (take len rest)) (is.layout.1 (words_in (take len rest)))) is.shaped
+    ∙ ap (λ (own : List ℕ). with_piece own (is.layout.1 (words_in (take len rest)))) piece_same
+    ∙ ap (λ (own : List ℕ). with_piece piece (is.layout.1 own)) (sym words_are)
+    ∙ ap (with_piece piece) is.makes in
+    let more : len - words - length (drop words front) ≡ len - length front = omega arith in
+    let sum : len ≡ length front + (len - length front) = omega arith in
+    let left_is : drop (len - words - length (drop words front)) later ≡ drop len rest =
+    ap (λ (m : ℕ). drop m later) more
+    ∙ sym (drop-append-add front later (len - length front))
+    ∙ ap (λ (m : ℕ). drop m (front ++ later)) (sym sum)
+    ∙ ap (drop len) (sym parts) in
+    (ap (body offset len rest) is.found ∙ passes ∙ ap (λ (own : Rec). Ok (own, 8 + len)) made, refl, behind.2.2 ∙ ap Some left_is)
+
+-- why there is none, where it was not
+body_err : (offset : ℕ) (head : Head) (n front rest later : List ℕ) (shape : Shape) (rec : Rec) (whole : Bool) (stop : Stop) (left : Option (List ℕ)) → with_words n (row head.opcode) ≡ Some (shape, rec)
+    → IsFront head.length front whole rest later → BehindRead offset head.length shape front whole later (Err stop) left → BodyRead offset head rest (Err stop) left
+body_err offset head n front rest later shape rec whole (Malformed cause) left given begun behind =
+    let is = is_row head.opcode n _ shape rec refl given in
+    ap (body offset head.length rest) is.found
+    ∙ elim behind [
+      | inl refused ↦ body-refused offset head.length rest is.layout cause (rw is.shaped refused)
+      | inr short ↦
+          let met : IsAllowed offset head.length is.layout.0 = rw is.shaped (is_allowed offset head.length shape short.0) in
+          body-short offset head.length rest is.layout met (part head.length front rest later whole begun short.2) ∙ ap Err (sym short.1)
+    ]
+  where
+    part : (len : ℕ) (front rest later : List ℕ) (whole : Bool) → IsFront len front whole rest later → (whole ≡ true → length front + length later < len) → length rest < len
+    part len front rest later true begun short = rw (begun.parts refl) (omega (arith, short refl, length-append front later))
+    part len front rest later false begun short = begun.short refl
+body_err offset head n front rest later shape rec whole Failed left given begun behind = tt
+body_err offset head n front rest later shape rec whole NoMemory left given begun behind =
+    let is = is_row head.opcode n _ shape rec refl given in
+    rw (is.found, is.shaped) behind
 
 -- ---- the answers
 
-pub too_long_read : (known left : Option (List ℕ)) (offset : ℕ) (head : Head) (n : List ℕ) (x : Shape × Rec) → with_words n (row head.opcode) ≡ Some x
-    → (greatest_payload < head.length) ⊎ (greatest_trace < offset + 8 + head.length) → IfSome known (λ rest. BodyRead offset head rest (Err (Malformed TooLong)) left)
-too_long_read None left offset head n x given long = tt
-too_long_read (Some rest) left offset head n x given long =
-    let is = is_row head.opcode n _ x refl given in
-    ap (body offset head.length rest) is.found ∙ body-too_long offset head.length rest is.layout long
+pub body_read : (known mid left : Option (List ℕ)) (offset : ℕ) (head : Head) (first taken past : ℕ) (into front n piece : List ℕ) (shape : Shape) (rec : Rec) → first ≡ min head.length 64 → length into ≡ first → front ≡ into → taken ≤ length into
+    → Consumes known mid (take taken into) → (taken < length into → IsAtEnd mid) → length n ≡ 16 → IsRead little_number 4 (into ++ drop past (replicate 64 0)) n → with_words n (row head.opcode) ≡ Some (shape, rec) → words_of shape ≤ 16
+    → IfSome mid (λ later. BehindRead offset head.length shape front (eqb taken first) later (Ok piece) left) → IfSome known (λ rest. BodyRead offset head rest (Ok (with_piece piece rec, 8 + head.length)) left)
+body_read None mid left offset head first taken past into front n piece shape rec least size same within took end sixteen read given few behind = tt
+body_read (Some rest) None left offset head first taken past into front n piece shape rec least size same within took end sixteen read given few behind = absurd took
+body_read (Some rest) (Some later) left offset head first taken past into front n piece shape rec least size same within took end sixteen read given few behind =
+    let begun = front_is head.length taken first into rest later (eqb taken first) least size within took end refl in
+    body_ok offset head n piece into rest later shape rec (eqb taken first) past left given few begun sixteen read (rw same at behind)
 
--- the record of a payload that is read in two parts
-record_parts : (layout : Layout) (len front : ℕ) (rest n piece : List ℕ) (rec : Rec) → front ≡ 4 * words_of layout.0 → front ≤ len → n ≡ words (take front rest) → piece ≡ take (len - front) (drop front rest)
-    → layout.1 n ≡ rec → record_from layout (take len rest) ≡ with_piece piece rec
-record_parts layout len front rest n piece rec front_is within words_are piece_is made =
-    let first : take front (take len rest) ≡ take front rest = take-take front len rest within in
-    let sum : len ≡ front + (len - front) = omega arith in
-    let second : drop front (take len rest) ≡ take (len - front) (drop front rest) = ap (λ (m : ℕ). drop front (take m rest)) sum ∙ drop-take front (len - front) rest in
-    ap (λ (m : ℕ). with_piece (drop m (take len rest)) (layout.1 (words (take m (take len rest))))) (sym front_is)
-    ∙ ap (λ (own : List ℕ). with_piece (drop front (take len rest)) (layout.1 (words own))) first
-    ∙ ap (λ (own : List ℕ). with_piece own (layout.1 (words (take front rest)))) (second ∙ sym piece_is)
-    ∙ ap (λ (own : List ℕ). with_piece piece (layout.1 own)) (sym words_are)
-    ∙ ap (with_piece piece) made
-
-pub body_read : (known mid left : Option (List ℕ)) (offset front : ℕ) (head : Head) (zeros n piece : List ℕ) (x y : Shape × Rec) → with_words zeros (row head.opcode) ≡ Some x → IsAllowed offset head x.0 front
-    → IfSome known (λ rest. WordsRead front rest (Ok n) mid) → IfSome mid (λ rest. PieceRead (head.length - front) rest (Ok piece) left) → with_words n (row head.opcode) ≡ Some y
-    → IfSome known (λ rest. BodyRead offset head rest (Ok (with_piece piece y.1, 8 + head.length)) left)
-body_read None mid left offset front head zeros n piece x y given met first second again = tt
-body_read (Some rest) None left offset front head zeros n piece x y given met first second again = absurd cc
-body_read (Some rest) (Some later) left offset front head zeros n piece x y given met first second again =
-    let is = is_row head.opcode zeros _ x refl given in
-    let len = head.length in
-    let within : front ≤ len = met.within in
-    let behind : later ≡ drop front rest = cc in
-    let rest_fits : len - front ≤ length later = second.0 in
-    let long : length later ≡ length rest - front = ap length behind ∙ length-drop front rest in
-    let whole : len ≤ length rest = omega (arith, first.0) in
-    let sum : front + (len - front) ≡ len = omega arith in
-    let front_is : front ≡ 4 * words_of is.layout.0 = met.front_is ∙ ap (λ (shape : Shape). 4 * words_of shape) (sym is.shaped) in
-    let passes = body-passes offset len rest is.layout met.short met.ends (rw is.shaped met.allowed) whole in
-    let piece_is : piece ≡ take (len - front) (drop front rest) = second.1 ∙ ap (take (len - front)) behind in
-    let parts = record_parts is.layout len front rest n piece y.1 front_is within first.1 piece_is (fields_are n _ is.layout y is.found again) in
-    let left_is : drop (len - front) later ≡ drop len rest = ap (drop (len - front)) behind ∙ drop-drop (len - front) front rest ∙ ap (λ (m : ℕ). drop m rest) sum in
-    (ap (body offset len rest) is.found ∙ passes ∙ ap (λ (rec : Rec). Ok (rec, 8 + len)) parts, refl, second.2 ∙ ap Some left_is)
-
--- the words, or the piece, end before they are whole
-short_read : (offset : ℕ) (head : Head) (front : ℕ) (rest zeros : List ℕ) (x : Shape × Rec) (cause : Cause) → with_words zeros (row head.opcode) ≡ Some x → IsAllowed offset head x.0 front
-    → length rest < head.length → cause ≡ Short → body offset head.length rest (row head.opcode) ≡ Err cause
-short_read offset head front rest zeros x cause given met part is_short =
-    let is = is_row head.opcode zeros _ x refl given in
-    ap (body offset head.length rest) is.found ∙ body-short offset head.length rest is.layout met.short met.ends (rw is.shaped met.allowed) part ∙ ap Err (sym is_short)
-
-pub words_not_read : (known left : Option (List ℕ)) (offset front : ℕ) (head : Head) (zeros : List ℕ) (x : Shape × Rec) (stop : Stop) → with_words zeros (row head.opcode) ≡ Some x → IsAllowed offset head x.0 front
-    → IfSome known (λ rest. WordsRead front rest (Err stop) left) → IfSome known (λ rest. BodyRead offset head rest (Err stop) left)
-words_not_read None left offset front head zeros x stop given met read = tt
-words_not_read (Some rest) left offset front head zeros x (Malformed cause) given met read =
-    let within : front ≤ head.length = met.within in
-    short_read offset head front rest zeros x cause given met (omega (arith, read.0)) read.1
-words_not_read (Some rest) left offset front head zeros x Failed given met read = tt
-words_not_read (Some rest) left offset front head zeros x NoMemory given met read = absurd read
-
--- a length that is more than the words' is allowed by a row with a piece alone
-piece_allowed : (shape : Shape) (len front : ℕ) (has : Bool) → has_piece shape ≡ has → (has_piece shape ≡ false → len ≡ 4 * words_of shape) → front ≡ 4 * words_of shape → 0 < len - front → has_piece shape ≡ true
-piece_allowed shape len front true is none front_is some = is
-piece_allowed shape len front false is none front_is some = let same = none is in absurd (omega arith)
-
-pub piece_not_read : (known mid left : Option (List ℕ)) (offset front : ℕ) (head : Head) (zeros n : List ℕ) (x : Shape × Rec) (stop : Stop) → with_words zeros (row head.opcode) ≡ Some x → IsAllowed offset head x.0 front
-    → IfSome known (λ rest. WordsRead front rest (Ok n) mid) → IfSome mid (λ rest. PieceRead (head.length - front) rest (Err stop) left) → IfSome known (λ rest. BodyRead offset head rest (Err stop) left)
-piece_not_read None mid left offset front head zeros n x stop given met first second = tt
-piece_not_read (Some rest) None left offset front head zeros n x stop given met first second = absurd cc
-piece_not_read (Some rest) (Some later) left offset front head zeros n x (Malformed cause) given met first second =
-    let within : front ≤ head.length = met.within in
-    let behind : later ≡ drop front rest = cc in
-    let long : length later ≡ length rest - front = ap length behind ∙ length-drop front rest in
-    short_read offset head front rest zeros x cause given met (omega (arith, first.0, second.0)) second.1
-piece_not_read (Some rest) (Some later) left offset front head zeros n x Failed given met first second = tt
-piece_not_read (Some rest) (Some later) left offset front head zeros n x NoMemory given met first second =
-    let is = is_row head.opcode zeros _ x refl given in
-    let has : has_piece x.0 ≡ true = piece_allowed x.0 head.length front _ refl met.none met.front_is second in
-    rw (is.found, is.shaped) has
+pub body_not_read : (known mid left : Option (List ℕ)) (offset : ℕ) (head : Head) (first taken : ℕ) (into front n : List ℕ) (shape : Shape) (rec : Rec) (stop : Stop) → first ≡ min head.length 64 → length into ≡ first → front ≡ into → taken ≤ length into
+    → Consumes known mid (take taken into) → (taken < length into → IsAtEnd mid) → with_words n (row head.opcode) ≡ Some (shape, rec) → IfSome mid (λ later. BehindRead offset head.length shape front (eqb taken first) later (Err stop) left)
+    → IfSome known (λ rest. BodyRead offset head rest (Err stop) left)
+body_not_read None mid left offset head first taken into front n shape rec stop least size same within took end given behind = tt
+body_not_read (Some rest) None left offset head first taken into front n shape rec stop least size same within took end given behind = absurd took
+body_not_read (Some rest) (Some later) left offset head first taken into front n shape rec stop least size same within took end given behind =
+    let begun = front_is head.length taken first into rest later (eqb taken first) least size within took end refl in
+    let stopped_behind = subst (λ (own : List ℕ). BehindRead offset head.length shape own (eqb taken first) later (Err stop) left) same behind in
+    body_err offset head n into rest later shape rec (eqb taken first) stop left given begun stopped_behind

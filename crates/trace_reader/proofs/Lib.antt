@@ -1,6 +1,5 @@
 pub mod Bodies
 pub mod Bytes
-pub mod Commands
 pub mod Filled
 pub mod Outcomes
 pub mod Pieces

@@ -6,9 +6,9 @@ use Rattle.std.proofs.Math.Nat.{mod-lt}
 use Rattle.std.proofs.lemmas.List.Elements.{All-nil, All-cons, All-append}
 use Rattle.byteorder.specs.Endian.{little_bytes}
 use Rattle.gl_records.specs.declared.rec.Rec.{Rec}
-use Rattle.gl_records.specs.declared.rec.Rec.TheVariants.{End, Swap, ClientBytes, VertexPointer, EnableClientState, DisableClientState, Color4x, DrawArrays, ClearColorx, Clear}
+use Rattle.gl_records.specs.declared.rec.Rec.TheVariants.{End}
 use Rattle.gl_records.specs.declared.size.Size.{Size}
-use Rattle.trace_reader.specs.Spelling.{bits, signed_bits, words_bytes, command, record_bytes, records_bytes, spell, FitsWords, IsPlain, Fits, IsBytes}
+use Rattle.trace_reader.specs.Spelling.{words_bytes, spelling, payload, record_bytes, records_bytes, spell, HasBytes, IsBytes}
 
 abbrev IsByte : ℕ → Type 0
 IsByte byte = byte < 2 ^ 8
@@ -25,40 +25,27 @@ words_bytes-bytes : (ns : List ℕ) → IsBytes (words_bytes ns)
 words_bytes-bytes [] = All-nil IsByte
 words_bytes-bytes (n ∷ ns) = joined (little_bytes 4 n) (words_bytes ns) (little_bytes-from 0 4 n) (words_bytes-bytes ns)
 
--- a case for each row of the table
-payload-bytes : (rec : Rec) → FitsWords rec → IsBytes (command rec).payload
-payload-bytes End fits = All-nil IsByte
-payload-bytes Swap fits = All-nil IsByte
-payload-bytes (ClientBytes region piece) fits = joined (words_bytes (region ∷ [])) piece (words_bytes-bytes (region ∷ [])) fits.1
-payload-bytes (VertexPointer size kind stride region offset) fits = words_bytes-bytes (signed_bits size ∷ kind ∷ signed_bits stride ∷ region ∷ offset ∷ [])
-payload-bytes (EnableClientState array) fits = words_bytes-bytes (array ∷ [])
-payload-bytes (DisableClientState array) fits = words_bytes-bytes (array ∷ [])
-payload-bytes (Color4x red green blue alpha) fits = words_bytes-bytes (bits red ∷ bits green ∷ bits blue ∷ bits alpha ∷ [])
-payload-bytes (DrawArrays mode first count) fits = words_bytes-bytes (mode ∷ signed_bits first ∷ signed_bits count ∷ [])
-payload-bytes (ClearColorx red green blue alpha) fits = words_bytes-bytes (bits red ∷ bits green ∷ bits blue ∷ bits alpha ∷ [])
-payload-bytes (Clear mask) fits = words_bytes-bytes (mask ∷ [])
-
 numbers_then : (n k x y : ℕ) (rest : List ℕ) → IsBytes rest → IsBytes (little_bytes n x ++ (little_bytes k y ++ rest))
 numbers_then n k x y rest each = joined (little_bytes n x) (little_bytes k y ++ rest) (little_bytes-from 0 n x) (joined (little_bytes k y) rest (little_bytes-from 0 k y) each)
 
-record_bytes-bytes : (rec : Rec) → FitsWords rec → IsBytes (record_bytes rec)
-record_bytes-bytes rec fits =
-    let own : List ℕ = (command rec).payload in
-    numbers_then 2 2 (command rec).opcode 0 (little_bytes 4 (length own) ++ own) (joined (little_bytes 4 (length own)) own (little_bytes-from 0 4 (length own)) (payload-bytes rec fits))
+record_bytes-bytes : (rec : Rec) → HasBytes rec → IsBytes (record_bytes rec)
+record_bytes-bytes rec has =
+    let own : List ℕ = payload (spelling rec) in
+    let each : IsBytes own = joined (words_bytes (spelling rec).words) (spelling rec).piece (words_bytes-bytes (spelling rec).words) has in
+    numbers_then 2 2 (spelling rec).opcode 0 (little_bytes 4 (length own) ++ own) (joined (little_bytes 4 (length own)) own (little_bytes-from 0 4 (length own)) each)
 
 -- the records, and End behind them
-each-bytes : (records : List Rec) → All IsPlain records → IsBytes (records_bytes records)
-each-bytes [] plain = joined (record_bytes End) [] (record_bytes-bytes End tt) (All-nil IsByte)
-each-bytes (rec ∷ records) plain =
-    let first : IsPlain rec = plain 0 rec (omega arith) in
-    joined (record_bytes rec) (records_bytes records) (record_bytes-bytes rec first.1) (each-bytes records (λ k d lt. plain (suc k) d (omega arith)))
+records_bytes-bytes : (records : List Rec) → All HasBytes records → IsBytes (records_bytes records)
+records_bytes-bytes [] have = joined (record_bytes End) [] (record_bytes-bytes End (All-nil IsByte)) (All-nil IsByte)
+records_bytes-bytes (rec ∷ records) have =
+    joined (record_bytes rec) (records_bytes records) (record_bytes-bytes rec (have 0 rec (omega arith))) (records_bytes-bytes records (λ k d lt. have (suc k) d (omega arith)))
 
 magic-bytes : IsBytes (codes "GLT1")
 magic-bytes = first 71 (codes "LT1") (lit< tt) (first 76 (codes "T1") (lit< tt) (first 84 (codes "1") (lit< tt) (first 49 [] (lit< tt) (All-nil IsByte)))) where
   first : (x : ℕ) (xs : List ℕ) → x < 2 ^ 8 → IsBytes xs → IsBytes (x ∷ xs)
   first x xs = All-cons IsByte x xs
 
-pub spell-bytes : (size : Size) (records : List Rec) → Fits size records → IsBytes (spell size records)
-spell-bytes size records fits =
+pub spell-bytes : (size : Size) (records : List Rec) → All HasBytes records → IsBytes (spell size records)
+spell-bytes size records have =
     joined (codes "GLT1") (little_bytes 2 size.w ++ (little_bytes 2 size.h ++ records_bytes records)) magic-bytes
-    (numbers_then 2 2 size.w size.h (records_bytes records) (each-bytes records fits.plain))
+    (numbers_then 2 2 size.w size.h (records_bytes records) (records_bytes-bytes records have))

@@ -9,7 +9,9 @@ use Rattle.trace_reader.specs.declared.cause.Cause.TheVariants.{Short, NoEnd, To
 use Rattle.trace_reader.specs.declared.record.Stop.TheVariants.{Malformed}
 use Rattle.trace_reader.specs.Reading.{ReadsAt}
 use Rattle.trace_reader.specs.Steps.{RecordRead}
-use Rattle.trace_reader.specs.Table.{Layout, allows, record_from}
+use Rattle.trace_reader.specs.Command.{Layout}
+use Rattle.trace_reader.specs.Shape.{allows}
+use Rattle.trace_reader.specs.Table.{record_from}
 use Rattle.trace_reader.specs.Trace.{greatest_payload, greatest_trace, Head, Tail, refused_if, head, body, record_of, record_at, is_end, ended, refused, with_record, after_record, tail_within, tail_at}
 
 -- a condition that did not decide

@@ -4,9 +4,9 @@ use Rattle.trace_reader.specs.declared.stage.Stage.{Stage}
 use Rattle.trace_reader.specs.declared.stage.Stage.TheVariants.{Reading}
 
 pub record Progress : Type 0 where
-  -- the whole records that it has read
+  -- the whole records that it has read, without End
   pub index : ℕ
-  -- the bytes of the header and of these records
+  -- the bytes of the header and of the records that it has read, End among them
   pub offset : ℕ
   -- whether it reads on
   pub stage : Stage

@@ -1,5 +1,5 @@
 -- A trace that is read record by record: what an answer says of what the trace still has.
-use Rattle.std.specs.Prelude.{◌≡◌, ℕ, ◌+◌, true, List, [], Option, Some, Result, Ok, Err, IsSomeAnd, IsOkAnd, if◌then◌else◌, MatchBool}
+use Rattle.std.specs.Prelude.{◌≡◌, ℕ, ◌+◌, true, List, [], drop, Option, Some, Result, Ok, Err, IsSomeAnd, IsOkAnd, if◌then◌else◌, MatchBool}
 use Rattle.gl_records.specs.declared.rec.Rec.{Rec}
 use Rattle.gl_records.specs.declared.size.Size.{Size}
 use Rattle.trace_reader.specs.declared.cause.ReadEnd.{ReadEnd}
@@ -7,8 +7,9 @@ use Rattle.trace_reader.specs.declared.cause.ReadEnd.TheVariants.{Malformed, Rea
 use Rattle.trace_reader.specs.declared.stage.Stage.{Stage}
 use Rattle.trace_reader.specs.declared.stage.Stage.TheVariants.{Reading, Ended, Stopped}
 use Rattle.trace_reader.specs.Progress.{Progress}
-use Rattle.trace_reader.specs.Trace.{Tail, BadHeader, Readable, trace_of, tail_at, head, ended, refused, with_record, is_end}
-use Rattle.trace_reader.specs.Table.{row, has_piece}
+use Rattle.trace_reader.specs.Trace.{Tail, BadHeader, Readable, trace_of, tail_at, head, record_at, ended, refused, with_record, is_end}
+use Rattle.trace_reader.specs.Shape.{has_piece}
+use Rattle.trace_reader.specs.Table.{row}
 
 -- what the trace has from a reader's place on, where these bytes are left
 abbrev pub tail_of : Progress → List ℕ → Tail
@@ -51,7 +52,19 @@ Starts bytes (Err (Malformed index offset cause)) left = (trace_of bytes ≡ Bad
 Starts bytes (Err ReadFault) left = Unit {0}
 Starts bytes (Err NoMemory) left = Unit {0}
 
--- where a reader stands after an answer
+-- these are the record at a place and the bytes that it takes, and the source has what is behind them
+abbrev pub TakenAt : ℕ → List ℕ → Rec × ℕ → Option (List ℕ) → Type 0
+TakenAt offset bytes found left = (record_at offset bytes ≡ Ok found) × (left ≡ Some (drop found.1 bytes))
+
+-- a reader of bytes moved over the record at its place
+abbrev pub MovesOver : Progress → List ℕ → Rec → Progress → Option (List ℕ) → Type 0
+MovesOver old bytes rec new left = (n : ℕ) × (new.offset ≡ old.offset + n) × TakenAt old.offset bytes (rec, n) left
+
+-- how many records a reader has counted after one more: End isn't one of them
+abbrev pub index_after : ℕ → Rec → ℕ
+index_after index rec = if is_end rec then index else index + 1
+
+-- how a reader goes on after an answer
 abbrev pub stage_after : Result Rec ReadEnd → Stage
 stage_after (Ok rec) = if is_end rec then Ended else Reading
 stage_after (Err end) = Stopped end

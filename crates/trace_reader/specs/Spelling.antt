@@ -1,79 +1,58 @@
--- The spelling of a size and a list of records: the one list of bytes that is read as these.
-use Rattle.std.specs.Prelude.{◌≢◌, ◌≤◌, ◌<◌, ℕ, ◌+◌, ◌^◌, ℤ, List, [], ◌∷◌, ◌++◌, length, All, codes, FitsSigned}
+-- The spelling of records, and of a size and a list of records: bytes that are read as these.
+use Rattle.std.specs.Prelude.{◌≡◌, ◌≢◌, ◌≤◌, ◌<◌, ℕ, ◌+◌, ◌*◌, ◌^◌, true, List, [], ◌∷◌, ◌++◌, length, All, unwrap_or, IsSomeAnd, codes}
 use Rattle.std.specs.List.{flat_map}
-use Rattle.std.specs.Int.{w32, cast_unsigned}
 use Rattle.byteorder.specs.Endian.{little_bytes}
-use Rattle.fx_arith.specs.declared.fx.Fx.{Fx}
 use Rattle.gl_records.specs.declared.rec.Rec.{Rec}
-use Rattle.gl_records.specs.declared.rec.Rec.TheVariants.{End, Swap, ClientBytes, VertexPointer, EnableClientState, DisableClientState, Color4x, DrawArrays, ClearColorx, Clear}
+use Rattle.gl_records.specs.declared.rec.Rec.TheVariants.{End}
 use Rattle.gl_records.specs.declared.size.Size.{Size}
 use Rattle.gl_records.specs.Size.{IsSize}
+use Rattle.trace_reader.specs.Arrays.{arrays_spelling}
+use Rattle.trace_reader.specs.Clears.{clears_spelling}
+use Rattle.trace_reader.specs.Command.{Command}
+use Rattle.trace_reader.specs.Control.{control_spelling}
+use Rattle.trace_reader.specs.Current.{current_spelling}
+use Rattle.trace_reader.specs.Shape.{words_of, allows}
+use Rattle.trace_reader.specs.Table.{row, with_piece}
 use Rattle.trace_reader.specs.Trace.{greatest_payload, greatest_trace}
 
--- a number with a sign as a word of 32 bits, in two's complement
-abbrev pub signed_bits : ℤ → ℕ
-signed_bits number = cast_unsigned w32 number
+-- the command of a record: that of its group. Each record is of one group, so none is spelled with opcode 0.
+abbrev pub spelling : Rec → Command
+spelling rec =
+    unwrap_or (control_spelling rec) (
+    unwrap_or (arrays_spelling rec) (
+    unwrap_or (current_spelling rec) (
+    unwrap_or (clears_spelling rec) (record { opcode = 0; words = []; piece = [] }))))
 
--- the same of a GLfixed
-abbrev pub bits : Fx → ℕ
-bits number = cast_unsigned w32 number.0
+-- a list of words of 32 bits
+abbrev pub AreWords : List ℕ → Type 0
+AreWords words = All (λ word. word < 2 ^ 32) words
+
+-- the command reads back as the record: its opcode's row allows its length, and makes the record of its words, at
+-- most 16, whatever words follow them, and of its piece
+pub record ReadsBack (rec : Rec) (command : Command) : Type 0 where
+  pub opcode : command.opcode < 2 ^ 16
+  pub words : AreWords command.words
+  pub few : length command.words ≤ 16
+  pub back : IsSomeAnd (row command.opcode) (λ layout.
+      (words_of layout.0 ≡ length command.words)
+      × (allows layout.0 (4 * length command.words + length command.piece) ≡ true)
+      × ((later : List ℕ) → with_piece command.piece (layout.1 (command.words ++ later)) ≡ rec))
 
 -- words of 32 bits, each the lowest byte first
 abbrev pub words_bytes : List ℕ → List ℕ
 words_bytes words = flat_map (λ word. little_bytes 4 word) words
 
--- a command as the trace has it
-pub record Command : Type 0 where
-  pub opcode : ℕ
-  pub payload : List ℕ
-
--- a command whose payload is words
-abbrev pub words_command : ℕ → List ℕ → Command
-words_command opcode words = record { opcode = opcode; payload = words_bytes words }
-
--- the command of a record, a line for each row of the table
-abbrev pub command : Rec → Command
-command End = words_command 0x01 []
-command Swap = words_command 0x02 []
-command (ClientBytes region piece) = record { opcode = 0x10; payload = words_bytes (region ∷ []) ++ piece }
-command (VertexPointer size kind stride region offset) =
-    words_command 0x11 (signed_bits size ∷ kind ∷ signed_bits stride ∷ region ∷ offset ∷ [])
-command (EnableClientState array) = words_command 0x15 (array ∷ [])
-command (DisableClientState array) = words_command 0x16 (array ∷ [])
-command (Color4x red green blue alpha) = words_command 0x19 (bits red ∷ bits green ∷ bits blue ∷ bits alpha ∷ [])
-command (DrawArrays mode first count) = words_command 0x1D (mode ∷ signed_bits first ∷ signed_bits count ∷ [])
-command (ClearColorx red green blue alpha) = words_command 0x62 (bits red ∷ bits green ∷ bits blue ∷ bits alpha ∷ [])
-command (Clear mask) = words_command 0x65 (mask ∷ [])
-
--- a list of numbers that are bytes
-abbrev pub IsBytes : List ℕ → Type 0
-IsBytes bytes = All (λ byte. byte < 2 ^ 8) bytes
-
--- four GLfixed of 32 bits
-abbrev pub FitsFixed : Fx → Fx → Fx → Fx → Type 0
-FitsFixed a b c d = FitsSigned w32 a.0 × FitsSigned w32 b.0 × FitsSigned w32 c.0 × FitsSigned w32 d.0
-
--- the record's arguments are numbers of 32 bits, and its piece is bytes for which the greatest payload has room
-abbrev pub FitsWords : Rec → Type 0
-FitsWords End = Unit {0}
-FitsWords Swap = Unit {0}
-FitsWords (ClientBytes region piece) = (region < 2 ^ 32) × IsBytes piece × (4 + length piece ≤ greatest_payload)
-FitsWords (VertexPointer size kind stride region offset) =
-    FitsSigned w32 size × (kind < 2 ^ 32) × FitsSigned w32 stride × (region < 2 ^ 32) × (offset < 2 ^ 32)
-FitsWords (EnableClientState array) = array < 2 ^ 32
-FitsWords (DisableClientState array) = array < 2 ^ 32
-FitsWords (Color4x red green blue alpha) = FitsFixed red green blue alpha
-FitsWords (DrawArrays mode first count) = (mode < 2 ^ 32) × FitsSigned w32 first × FitsSigned w32 count
-FitsWords (ClearColorx red green blue alpha) = FitsFixed red green blue alpha
-FitsWords (Clear mask) = mask < 2 ^ 32
+-- the words and the piece
+abbrev pub payload : Command → List ℕ
+payload command = words_bytes command.words ++ command.piece
 
 -- the opcode, a word that is 0, the payload's length, and the payload
 abbrev pub command_bytes : Command → List ℕ
-command_bytes written =
-    little_bytes 2 written.opcode ++ little_bytes 2 0 ++ little_bytes 4 (length written.payload) ++ written.payload
+command_bytes command =
+    little_bytes 2 command.opcode ++ little_bytes 2 0 ++ little_bytes 4 (length (payload command)) ++ payload command
 
 abbrev pub record_bytes : Rec → List ℕ
-record_bytes rec = command_bytes (command rec)
+record_bytes rec = command_bytes (spelling rec)
 
 -- the records, and End behind them
 abbrev pub records_bytes : List Rec → List ℕ
@@ -83,9 +62,19 @@ records_bytes records = flat_map record_bytes (records ++ End ∷ [])
 abbrev pub spell : Size → List Rec → List ℕ
 spell size records = codes "GLT1" ++ little_bytes 2 size.w ++ little_bytes 2 size.h ++ records_bytes records
 
--- a record that may stand before End
-abbrev pub IsPlain : Rec → Type 0
-IsPlain rec = (rec ≢ End) × FitsWords rec
+-- a list of numbers that are bytes
+abbrev pub IsBytes : List ℕ → Type 0
+IsBytes bytes = All (λ byte. byte < 2 ^ 8) bytes
+
+-- a record whose piece is bytes
+abbrev pub HasBytes : Rec → Type 0
+HasBytes rec = IsBytes (spelling rec).piece
+
+-- a record that may stand before End: it reads back, and there is room for its payload
+pub record IsPlain (rec : Rec) : Type 0 where
+  pub plain : rec ≢ End
+  pub back : ReadsBack rec (spelling rec)
+  pub short : length (payload (spelling rec)) ≤ greatest_payload
 
 -- what has a spelling
 pub record Fits (size : Size) (records : List Rec) : Type 0 where

@@ -5,10 +5,13 @@ use Rattle.std.specs.List.{starts_with}
 use Rattle.gl_records.specs.declared.rec.Rec.{Rec}
 use Rattle.gl_records.specs.declared.rec.Rec.TheVariants.{End}
 use Rattle.gl_records.specs.declared.size.Size.{Size}
+use Rattle.gl_records.specs.declared.size.TheConstants.{GREATEST_SIDE}
 use Rattle.trace_reader.specs.declared.cause.Cause.{Cause}
 use Rattle.trace_reader.specs.declared.cause.Cause.TheVariants.{Short, BadMagic, BadSize, NoEnd, BadZero, UnknownOp, TooLong, BadLength, Trailing}
 use Rattle.trace_reader.specs.Numbers.{number_at}
-use Rattle.trace_reader.specs.Table.{Layout, row, allows, record_from}
+use Rattle.trace_reader.specs.Command.{Layout}
+use Rattle.trace_reader.specs.Shape.{allows}
+use Rattle.trace_reader.specs.Table.{row, record_from}
 
 -- where a trace is malformed: the whole records before that place, the bytes before it, and why
 pub record Refusal : Type 0 where
@@ -45,7 +48,7 @@ greatest_trace = 2 ^ 28
 
 -- a side that a surface may have, in pixels
 abbrev pub is_side : ℕ → Bool
-is_side side = nat_le 1 side && nat_le side 1024
+is_side side = nat_le 1 side && nat_le side GREATEST_SIDE
 
 -- the header: GLT1, the width and the height
 abbrev pub header : List ℕ → Result Size Cause

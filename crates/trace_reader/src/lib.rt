@@ -16,10 +16,48 @@ mod fill;
 mod laws;
 mod reader;
 mod record;
+mod shape;
+mod spelled;
 mod stage;
 mod table;
-mod vertex_table;
+mod words;
 
 pub use cause::{Cause, ReadEnd};
 pub use laws::{one_outcome, spelling_reads_back};
 pub use reader::Reader;
+pub use spelled::{Spelled, spell};
+
+#[cfg(test)]
+mod tests {
+    use super::*;
+    use gl_records::{Bytes, Rec};
+    use std::test::Fail;
+
+    #[test]
+    fn a_vertex_pointer_is_five_words(rt: HostRuntime) {
+        let rec = Rec::VertexPointer {
+            size: 3,
+            kind: 0x140C,
+            stride: -1,
+            region: 2,
+            offset: 16,
+        };
+        let spelled = spell(&rec);
+        assert_eq!(rt; spelled.opcode(), 0x11);
+        assert_eq!(rt; spelled.words(), &[3, 0x140C, 0xFFFF_FFFF, 2, 16]);
+        assert_eq!(rt; spelled.piece().len(), 0);
+    }
+
+    #[test]
+    fn client_bytes_are_a_word_and_the_bytes(rt: HostRuntime) -> Result<(), Fail> {
+        let rec = Rec::ClientBytes {
+            region: 5,
+            piece: Bytes::new(vec![in rt.alloc(); 1, 2, 3]?),
+        };
+        let spelled = spell(&rec);
+        assert_eq!(rt; spelled.opcode(), 0x10);
+        assert_eq!(rt; spelled.words(), &[5]);
+        assert_eq!(rt; spelled.piece(), &[1, 2, 3]);
+        Ok(())
+    }
+}

@@ -3,20 +3,17 @@ ghost use Rattle.outer_io.specs.Faults.{Rose};
 ghost use Rattle.trace_reader.specs.Progress.{at_first_record};
 ghost use Rattle.gl_records.specs.Size.{IsSize};
 ghost use Rattle.trace_reader.specs.Trace.{is_end, is_side as is_side_length};
-ghost use Rattle.trace_reader.specs.Reading.{BringsPiece, Reads, ReadsAt, Starts, stage_after};
+ghost use Rattle.trace_reader.specs.Reading.{BringsPiece, MovesOver, Reads, ReadsAt, Starts, TakenAt, index_after, stage_after};
 
 use crate::cause::{Cause, ReadEnd};
 use crate::fill::fill;
 use crate::record::{Stop, read_record};
 use crate::stage::Stage;
 use byteorder::{ByteOrder, LittleEndian};
-use gl_records::{Rec, Size};
+use gl_records::{GREATEST_SIDE, Rec, Size};
 use outer_io::Source;
 use std::alloc::Global;
 use std::marker::Model;
-
-/// The greatest side of a surface, in pixels.
-const GREATEST_SIDE: u16 = 1024;
 
 /// Reads a trace record by record. It knows how far it has come, and keeps its last answer: End or an error
 /// is answered again by each later call.
@@ -74,7 +71,7 @@ impl Reader {
 
     /// Reads the next record. End is the last, and only where no byte follows it. `Malformed` where the trace
     /// is, with the record's index and the byte at which it begins, `ReadFault` where the source failed, and
-    /// `NoMemory` where the record has a piece for which there is none.
+    /// `NoMemory` where there is none for the piece that the record's command brings: only at such a command.
     pub fn next<S: Source>(&mut self, source: &mut S) -> Result<Rec, ReadEnd>
         ensures trace { self.old.stage ≡ Stage.Reading
             → IfSome (S.rest source.old) (λ bytes. Reads self.old bytes result self.new (S.rest source.new)) }
@@ -84,6 +81,11 @@ impl Reader {
         ensures stopped { (end : ReadEnd) → self.old.stage ≡ Stage.Stopped end → result ≡ Err end }
         ensures again { self.old.stage ≢ Stage.Reading → (self.new ≡ self.old) × (source.new ≡ source.old) }
         ensures stage { self.new.stage ≡ stage_after result }
+
+        // End isn't counted. The offset moves by the bytes that the record takes, and the source with it.
+        ensures index { self.old.stage ≡ Stage.Reading → IfOk result (λ rec. self.new.index ≡ index_after self.old.index rec) }
+        ensures moves { self.old.stage ≡ Stage.Reading
+            → IfSome (S.rest source.old) (λ bytes. IfOk result (λ rec. MovesOver self.old bytes rec self.new (S.rest source.new))) }
 
         // Each record takes eight bytes or more of the greatest trace, so there is an end to them.
         ensures advances { IfOk result (λ rec. is_end rec ≡ false → self.old.offset + 8 ≤ self.new.offset) }
@@ -101,14 +103,18 @@ impl Reader {
             Stage::Stopped(end) => return Err(end),
         }
         match read_at(self.alloc, self.index, self.offset, source) {
-            Ok((Rec::End, _)) => {
-                self.stage = Stage::Ended;
-                Ok(Rec::End)
-            }
             Ok((rec, length)) => {
-                self.index += 1;
                 self.offset += length;
-                Ok(rec)
+                match rec {
+                    Rec::End => {
+                        self.stage = Stage::Ended;
+                        Ok(Rec::End)
+                    }
+                    rec => {
+                        self.index += 1;
+                        Ok(rec)
+                    }
+                }
             }
             Err(end) => {
                 self.stage = Stage::Stopped(end);
@@ -144,6 +150,7 @@ fn read_at<S: Source>(
     requires before { 8 * index ≤ offset }
     requires within { offset ≤ 2 ^ 28 }
     ensures trace { IfSome (S.rest source.old) (λ bytes. ReadsAt index offset bytes result (S.rest source.new)) }
+    ensures taken { IfSome (S.rest source.old) (λ bytes. IfOk result (λ found. TakenAt offset bytes found (S.rest source.new))) }
     ensures longer { IfOk result (λ found. (8 ≤ found.1) × (offset + found.1 ≤ 2 ^ 28)) }
     ensures read_fault { result ≡ Err ReadEnd.ReadFault → Rose (S.faults source.old) (S.faults source.new) }
     ensures memory { result ≡ Err ReadEnd.NoMemory → IfSome (S.rest source.old) BringsPiece }

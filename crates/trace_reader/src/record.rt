@@ -1,17 +1,19 @@
 //! One record of a source: its first eight bytes, and then its payload.
-ghost use Rattle.std.specs.Prelude.{◌≡◌, ◌≤◌, ◌+◌, ◌^◌, Err, IfOk, IfSome, OnErr};
+ghost use Rattle.std.specs.Prelude.{◌≡◌, ◌≤◌, ◌+◌, ◌^◌, min, length, Err, IfOk, IfSome, OnOk};
 ghost use Rattle.outer_io.specs.Faults.{Rose};
-ghost use Rattle.trace_reader.specs.Numbers.{number_at};
-ghost use Rattle.trace_reader.specs.Steps.{HeadRead, WordsRead, PieceRead, BodyRead, RecordRead};
+ghost use Rattle.trace_reader.specs.Shape.{words_of};
+ghost use Rattle.trace_reader.specs.Steps.{HeadRead, length_checked, PieceRead, BehindRead, BodyRead, RecordRead};
 ghost use Rattle.trace_reader.specs.declared.record.Stop.TheVariants.{Failed as stop_failed, NoMemory as stop_no_memory};
 
 use crate::cause::Cause;
-use crate::fill::fill;
-use crate::table::{Words, row, with_piece};
+use crate::fill::{fill, fill_behind};
+use crate::shape::Shape;
+use crate::table::{row, with_piece};
 use byteorder::{ByteOrder, LittleEndian};
 use gl_records::{Bytes, Rec};
 use outer_io::{Failed, Source};
 use std::alloc::{AllocError, Global};
+use std::cmp::min;
 
 /// The greatest payload, in bytes.
 const GREATEST_PAYLOAD: u32 = 1 << 24;
@@ -74,41 +76,74 @@ fn read_head<S: Source>(source: &mut S) -> Result<Head, Stop>
     })
 }
 
-/// The payload's words, which take `length` bytes.
-fn read_words<S: Source>(length: u32, source: &mut S) -> Result<Words, Stop>
-    requires { length ≤ 64 }
-    ensures words { IfSome (S.rest source.old) (λ rest. WordsRead length rest result (S.rest source.new)) }
-    ensures failed { result ≡ Err Stop.Failed → Rose (S.faults source.old) (S.faults source.new) }
-    ensures faults { S.faults source.old ≤ S.faults source.new }
+/// Whether a payload of `length` bytes may stand in a record of this shape that begins at `offset`.
+fn check_length(offset: u32, length: u32, shape: Shape) -> Result<(), Stop>
+    requires { offset ≤ 2 ^ 28 }
+    ensures { result ≡ length_checked offset length shape }
 {
-    let length = length as usize;
-    let mut payload = [0; 64];
-    if fill(source, &mut payload[..length])? < length {
-        return Err(Stop::Malformed(Cause::Short));
+    if length > GREATEST_PAYLOAD {
+        return Err(Stop::Malformed(Cause::TooLong));
     }
-    let mut words = [0; 16];
-    LittleEndian::read_u32_into(&payload, &mut words);
-    Ok(words)
+    if offset + 8 + length > GREATEST_TRACE {
+        return Err(Stop::Malformed(Cause::TooLong));
+    }
+    if !shape.allows(length) {
+        return Err(Stop::Malformed(Cause::BadLength));
+    }
+    Ok(())
 }
 
-/// The payload's piece, of `length` bytes.
-fn read_piece<S: Source>(alloc: Global, length: u32, source: &mut S) -> Result<Bytes, Stop>
-    ensures piece { IfSome (S.rest source.old) (λ rest. PieceRead length rest result (S.rest source.new)) }
+/// A piece of `size` bytes: those that were read already, and then the source's.
+fn read_piece<S: Source>(
+    alloc: Global,
+    front: &[u8],
+    size: usize,
+    source: &mut S,
+) -> Result<Bytes, Stop>
+    requires { length front.now ≤ size }
+    ensures piece { IfSome (S.rest source.old) (λ rest. PieceRead size front.now rest result (S.rest source.new)) }
     ensures failed { result ≡ Err Stop.Failed → Rose (S.faults source.old) (S.faults source.new) }
     ensures faults { S.faults source.old ≤ S.faults source.new }
 {
-    if length == 0 {
+    if size == 0 {
         return Ok(Bytes::new(Vec::new(alloc)));
     }
-    let length = length as usize;
-    let mut piece = vec![in alloc; 0; length]?;
-    if fill(source, &mut piece)? < length {
+    let mut piece = vec![in alloc; 0; size]?;
+    if !fill_behind(source, front, &mut piece)? {
         return Err(Stop::Malformed(Cause::Short));
     }
     Ok(Bytes::new(piece))
 }
 
-/// The record that a head begins, and how many bytes it takes with its head.
+/// The bytes of a payload behind the words that its shape begins with. Its first bytes, at most 64, were read:
+/// they stand in `front`, where the source had them all.
+fn read_behind<S: Source>(
+    alloc: Global,
+    offset: u32,
+    size: u32,
+    shape: Shape,
+    front: &[u8],
+    whole: bool,
+    source: &mut S,
+) -> Result<Bytes, Stop>
+    requires offset { offset ≤ 2 ^ 28 }
+    requires front { length front.now ≡ min size 64 }
+    requires words { words_of shape ≤ 16 }
+    ensures behind { IfSome (S.rest source.old) (λ rest. BehindRead offset size shape front.now whole rest result (S.rest source.new)) }
+    ensures longer { OnOk result (offset + 8 + size ≤ 2 ^ 28) }
+    ensures failed { result ≡ Err Stop.Failed → Rose (S.faults source.old) (S.faults source.new) }
+    ensures faults { S.faults source.old ≤ S.faults source.new }
+{
+    check_length(offset, size, shape)?;
+    if !whole {
+        return Err(Stop::Malformed(Cause::Short));
+    }
+    let words = 4 * usize::from(shape.words());
+    read_piece(alloc, &front[words..], size as usize - words, source)
+}
+
+/// The record that a head begins, and how many bytes it takes with its head. The first bytes of the payload are
+/// read before its row is looked up, and its length is judged after that.
 fn read_body<S: Source>(
     alloc: Global,
     offset: u32,
@@ -122,21 +157,19 @@ fn read_body<S: Source>(
     ensures faults { S.faults source.old ≤ S.faults source.new }
 {
     let Head { opcode, length } = head;
-    let Some((shape, _)) = row(alloc, opcode, &[0; 16]) else {
-        return Err(Stop::Malformed(Cause::UnknownOp));
-    };
-    if length > GREATEST_PAYLOAD || offset + 8 + length > GREATEST_TRACE {
-        return Err(Stop::Malformed(Cause::TooLong));
-    }
-    if !shape.allows(length) {
-        return Err(Stop::Malformed(Cause::BadLength));
-    }
-    let front = 4 * u32::from(shape.words());
-    let words = read_words(front, source)?;
-    let piece = read_piece(alloc, length - front, source)?;
+    let first = min(length, 64) as usize;
+    let mut front = [0; 64];
+    let whole = fill(source, &mut front[..first])? == first;
+    let mut words = [0; 16];
+    LittleEndian::read_u32_into(&front, &mut words);
     match row(alloc, opcode, &words) {
-        Some((_, rec)) => Ok((with_piece(rec, piece), 8 + length)),
-        None => unreachable!(),
+        Some((shape, rec)) => {
+            match read_behind(alloc, offset, length, shape, &front[..first], whole, source) {
+                Ok(piece) => Ok((with_piece(rec, piece), 8 + length)),
+                Err(stop) => Err(stop),
+            }
+        }
+        None => Err(Stop::Malformed(Cause::UnknownOp)),
     }
 }
 

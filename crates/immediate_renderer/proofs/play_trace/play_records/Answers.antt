@@ -4,7 +4,7 @@ use Rattle.trace_reader.specs.Trace.{is_end}
 use Rattle.trace_reader.proofs.Outcomes.{is_end-end}
 use Rattle.draw_front.specs.Playing.{Playing}
 use Rattle.immediate_renderer.specs.Settled.{is_ended}
-use Rattle.immediate_renderer.proofs.SoFar.{nothing_played, played_more, played_to_end, record_front, end_front, end_whole, stop_log}
+use Rattle.immediate_renderer.proofs.SoFar.{nothing_played, played_more, played_front, played_to_end, record_front, end_front, end_whole, stop_log}
 use Rattle.immediate_renderer.proofs.Steps.{is_ended-other, counted-end, after_record-plain}
 use Rattle.immediate_renderer.proofs.play_trace.play_records.Goals as goal
 
@@ -39,6 +39,15 @@ returns-in_err-run-clause-log g c =
     let run = c.in_err-run.ensures in
     let fronts = record_front _ _ c.next.new.self _ _ _ _ (g.S.Source.rest c.next.new.source) _ _ _ _ _ _ c.in-Ok.rec c.records.invariant.played (c.in-Ok.ensures.trace c.records.invariant.reading) run.chunk run.lines in
     rw p.1 fronts.1
+
+pub returns-in_err-put_end-clause-frames : goal.returns-in_err-put_end-clause-frames
+returns-in_err-put_end-clause-frames g c =
+    let p = err_from_is_err_and c.from_residual-in_err-put_end.result c.from_residual-in_err-put_end.ensures.1 in
+    let run = c.in_ok-run.ensures in
+    let last : is_end c.in-Ok.rec ≡ true = sym run.ended ∙ ap is_ended c.in-Ended.is in
+    let played = played_to_end _ _ _ _ _ _ _ _ _ _ _ _ c.in-Ok.rec c.records.invariant.played last run.chunk run.lines in
+    let fronts = played_front _ _ _ _ _ _ _ _ _ _ played in
+    rw p.1 fronts.0
 
 pub returns-in_err-put_end-clause-log : goal.returns-in_err-put_end-clause-log
 returns-in_err-put_end-clause-log g c =

@@ -1,0 +1,40 @@
+-- A command as it lies in a trace, and how its payload's words are fields of a record.
+use Rattle.std.specs.Prelude.{ℕ, ℤ, List, Option, option_map, slice_index}
+use Rattle.std.specs.Int.{w32, cast_signed, cast_unsigned}
+use Rattle.fx_arith.specs.declared.fx.Fx.{Fx}
+use Rattle.gl_records.specs.declared.rec.Rec.{Rec}
+use Rattle.trace_reader.specs.declared.shape.Shape.{Shape}
+
+-- how a command's payload is laid out: its length, and the record that its words make. A piece is empty there.
+abbrev pub Layout : Type 0
+Layout = Shape × (List ℕ → Rec)
+
+-- a row, with the record that these words make
+abbrev pub with_words : List ℕ → Option Layout → Option (Shape × Rec)
+with_words n found = option_map (λ layout. (layout.0, layout.1 n)) found
+
+-- word k of the words n
+abbrev pub word : List ℕ → ℕ → ℕ
+word n k = slice_index n k
+
+-- word k as a number with a sign, in two's complement
+abbrev pub signed : List ℕ → ℕ → ℤ
+signed n k = cast_signed w32 (slice_index n k)
+
+-- word k as a GLfixed
+abbrev pub fixed : List ℕ → ℕ → Fx
+fixed n k = record { 0 = cast_signed w32 (slice_index n k) }
+
+-- a command as it is written: the opcode, the words that its payload begins with, and the bytes behind them
+pub record Command : Type 0 where
+  pub opcode : ℕ
+  pub words : List ℕ
+  pub piece : List ℕ
+
+-- a number with a sign as a word of 32 bits, in two's complement
+abbrev pub signed_bits : ℤ → ℕ
+signed_bits number = cast_unsigned w32 number
+
+-- the same of a GLfixed
+abbrev pub bits : Fx → ℕ
+bits number = cast_unsigned w32 number.0

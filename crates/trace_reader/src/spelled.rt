@@ -1,0 +1,96 @@
+//! A record as a trace has it.
+ghost use Rattle.std.specs.Prelude.{◌≡◌, ◌≤◌, [], length};
+ghost use Rattle.trace_reader.specs.Spelling.{ReadsBack, spelling as spelling_of};
+
+use crate::table::{arrays, clears, control, current};
+use crate::words::Words;
+use gl_records::Rec;
+use std::marker::Model;
+
+/// A command as it is written into a trace: its opcode, the words that its payload begins with, and the bytes
+/// behind them, which are lent by the record. Contracts see it as these three.
+#[derive(Drop)]
+pub struct Spelled<'a> {
+    opcode: u16,
+    words: Words,
+    /// How many of the words are the payload's, at most 16.
+    count: usize,
+    piece: &'a [u8],
+}
+
+impl<'a> Model for Spelled<'a> {
+    ghost use Rattle.std.specs.Prelude.{◌≤◌, take};
+    ghost use Rattle.trace_reader.specs.Command.{Command};
+
+    ghost Value = { Command };
+
+    ghost view = { λ spelled. record { opcode = spelled.opcode; words = take spelled.count spelled.words; piece = spelled.piece.now } };
+
+    ghost invariant = { λ spelled. spelled.count ≤ 16 };
+}
+
+impl<'a> Spelled<'a> {
+    /// A command of these words, at most 16, and of this piece.
+    pub(crate) fn new(opcode: u16, front: &[u32], piece: &'a [u8]) -> Spelled<'a>
+        requires { length front.now ≤ 16 }
+        ensures { result ≡ record { opcode = opcode; words = front.now; piece = piece.now } }
+    {
+        let mut words = [0; 16];
+        words[..front.len()].copy_from_slice(front);
+        Spelled {
+            opcode,
+            words,
+            count: front.len(),
+            piece,
+        }
+    }
+
+    /// A command of these words alone, at most 16.
+    pub(crate) fn of_words(opcode: u16, front: &[u32]) -> Spelled<'a>
+        requires { length front.now ≤ 16 }
+        ensures { result ≡ record { opcode = opcode; words = front.now; piece = [] } }
+    {
+        Spelled::new(opcode, front, b"")
+    }
+
+    /// The opcode.
+    pub fn opcode(&self) -> u16
+        ensures { result ≡ self.now.opcode }
+    {
+        self.opcode
+    }
+
+    /// The words that the payload begins with, each of 32 bits, the lowest byte first.
+    pub fn words(&self) -> &[u32]
+        ensures { result.now ≡ self.now.words }
+    {
+        &self.words[..self.count]
+    }
+
+    /// The bytes of the payload behind the words.
+    pub fn piece(&self) -> &[u8]
+        ensures { result.now ≡ self.now.piece }
+    {
+        self.piece
+    }
+}
+
+/// The record as it is written into a trace. What is written reads back as the record.
+pub fn spell(rec: &Rec) -> Spelled<'_>
+    ensures spelling { result ≡ spelling_of rec.now }
+    ensures back { ReadsBack rec.now result }
+{
+    if let Some(spelled) = control::spelling(rec) {
+        return spelled;
+    }
+    if let Some(spelled) = arrays::spelling(rec) {
+        return spelled;
+    }
+    if let Some(spelled) = current::spelling(rec) {
+        return spelled;
+    }
+    match clears::spelling(rec) {
+        Some(spelled) => spelled,
+        None => unreachable!(),
+    }
+}

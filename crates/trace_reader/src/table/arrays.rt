@@ -1,0 +1,84 @@
+//! Commands of arrays: client regions, the arrays that lie in them, and draws.
+ghost use Rattle.std.specs.Prelude.{◌≡◌, ◌≤◌, IfSome};
+ghost use Rattle.trace_reader.specs.Arrays.{arrays_row, arrays_spelling};
+ghost use Rattle.trace_reader.specs.Shape.{words_of};
+ghost use Rattle.trace_reader.specs.Spelling.{ReadsBack};
+ghost use Rattle.trace_reader.specs.Command.{with_words};
+
+use crate::shape::Shape;
+use crate::spelled::Spelled;
+use crate::words::{Words, signed, signed_word};
+use gl_records::{Bytes, Rec};
+use std::alloc::Global;
+
+/// The row of an opcode, as `row` of the whole table answers it.
+pub fn row(alloc: Global, opcode: u16, n: &Words) -> Option<(Shape, Rec)>
+    ensures row { result ≡ with_words n.now (arrays_row opcode) }
+    ensures short { IfSome result (λ found. words_of found.0 ≤ 16) }
+{
+    match opcode {
+        0x10 => Some((
+            Shape::AtLeast(1),
+            Rec::ClientBytes {
+                region: n[0],
+                piece: Bytes::new(Vec::new(alloc)),
+            },
+        )),
+        0x11 => Some((
+            Shape::Exactly(5),
+            Rec::VertexPointer {
+                size: signed(n[0]),
+                kind: n[1],
+                stride: signed(n[2]),
+                region: n[3],
+                offset: n[4],
+            },
+        )),
+        0x15 => Some((Shape::Exactly(1), Rec::EnableClientState { array: n[0] })),
+        0x16 => Some((Shape::Exactly(1), Rec::DisableClientState { array: n[0] })),
+        0x1D => Some((
+            Shape::Exactly(3),
+            Rec::DrawArrays {
+                mode: n[0],
+                first: signed(n[1]),
+                count: signed(n[2]),
+            },
+        )),
+        _ => None,
+    }
+}
+
+/// The record as these commands are written, where it is one of them.
+pub fn spelling(rec: &Rec) -> Option<Spelled<'_>>
+    ensures spelling { result ≡ arrays_spelling rec.now }
+    ensures back { IfSome result (ReadsBack rec.now) }
+{
+    match rec {
+        Rec::ClientBytes { region, piece } => {
+            Some(Spelled::new(0x10, &[*region], piece.as_slice()))
+        }
+        Rec::VertexPointer {
+            size,
+            kind,
+            stride,
+            region,
+            offset,
+        } => Some(Spelled::of_words(
+            0x11,
+            &[
+                signed_word(*size),
+                *kind,
+                signed_word(*stride),
+                *region,
+                *offset,
+            ],
+        )),
+        Rec::EnableClientState { array } => Some(Spelled::of_words(0x15, &[*array])),
+        Rec::DisableClientState { array } => Some(Spelled::of_words(0x16, &[*array])),
+        Rec::DrawArrays { mode, first, count } => Some(Spelled::of_words(
+            0x1D,
+            &[*mode, signed_word(*first), signed_word(*count)],
+        )),
+        _ => None,
+    }
+}

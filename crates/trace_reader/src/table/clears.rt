@@ -1,0 +1,56 @@
+//! Commands of clears: the values that they write, and the clears themselves.
+ghost use Rattle.std.specs.Prelude.{◌≡◌, ◌≤◌, IfSome};
+ghost use Rattle.trace_reader.specs.Clears.{clears_row, clears_spelling};
+ghost use Rattle.trace_reader.specs.Shape.{words_of};
+ghost use Rattle.trace_reader.specs.Spelling.{ReadsBack};
+ghost use Rattle.trace_reader.specs.Command.{with_words};
+
+use crate::shape::Shape;
+use crate::spelled::Spelled;
+use crate::words::{Words, fixed, fixed_word};
+use gl_records::Rec;
+
+/// The row of an opcode, as `row` of the whole table answers it.
+pub fn row(opcode: u16, n: &Words) -> Option<(Shape, Rec)>
+    ensures row { result ≡ with_words n.now (clears_row opcode) }
+    ensures short { IfSome result (λ found. words_of found.0 ≤ 16) }
+{
+    match opcode {
+        0x62 => Some((
+            Shape::Exactly(4),
+            Rec::ClearColorx {
+                red: fixed(n[0]),
+                green: fixed(n[1]),
+                blue: fixed(n[2]),
+                alpha: fixed(n[3]),
+            },
+        )),
+        0x65 => Some((Shape::Exactly(1), Rec::Clear { mask: n[0] })),
+        _ => None,
+    }
+}
+
+/// The record as these commands are written, where it is one of them.
+pub fn spelling(rec: &Rec) -> Option<Spelled<'_>>
+    ensures spelling { result ≡ clears_spelling rec.now }
+    ensures back { IfSome result (ReadsBack rec.now) }
+{
+    match rec {
+        Rec::ClearColorx {
+            red,
+            green,
+            blue,
+            alpha,
+        } => Some(Spelled::of_words(
+            0x62,
+            &[
+                fixed_word(*red),
+                fixed_word(*green),
+                fixed_word(*blue),
+                fixed_word(*alpha),
+            ],
+        )),
+        Rec::Clear { mask } => Some(Spelled::of_words(0x65, &[*mask])),
+        _ => None,
+    }
+}

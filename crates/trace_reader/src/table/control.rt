@@ -1,0 +1,35 @@
+//! Commands of the whole trace: its end, and presenting the surface.
+ghost use Rattle.std.specs.Prelude.{◌≡◌, ◌≤◌, IfSome};
+ghost use Rattle.trace_reader.specs.Control.{control_row, control_spelling};
+ghost use Rattle.trace_reader.specs.Shape.{words_of};
+ghost use Rattle.trace_reader.specs.Spelling.{ReadsBack};
+ghost use Rattle.trace_reader.specs.Command.{with_words};
+
+use crate::shape::Shape;
+use crate::spelled::Spelled;
+use crate::words::Words;
+use gl_records::Rec;
+
+/// The row of an opcode, as `row` of the whole table answers it.
+pub fn row(opcode: u16, _n: &Words) -> Option<(Shape, Rec)>
+    ensures row { result ≡ with_words _n.now (control_row opcode) }
+    ensures short { IfSome result (λ found. words_of found.0 ≤ 16) }
+{
+    match opcode {
+        0x01 => Some((Shape::Exactly(0), Rec::End)),
+        0x02 => Some((Shape::Exactly(0), Rec::Swap)),
+        _ => None,
+    }
+}
+
+/// The record as these commands are written, where it is one of them.
+pub fn spelling(rec: &Rec) -> Option<Spelled<'_>>
+    ensures spelling { result ≡ control_spelling rec.now }
+    ensures back { IfSome result (ReadsBack rec.now) }
+{
+    match rec {
+        Rec::End => Some(Spelled::of_words(0x01, &[])),
+        Rec::Swap => Some(Spelled::of_words(0x02, &[])),
+        _ => None,
+    }
+}
