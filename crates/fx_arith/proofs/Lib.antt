@@ -1,2 +1,4 @@
-pub mod Products
 pub mod Floors
+pub mod Halves
+pub mod Products
+pub mod Roots

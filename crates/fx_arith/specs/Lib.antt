@@ -1,1 +1,5 @@
+pub mod Angle
+pub mod Matrix
 pub mod Number
+pub mod Power
+pub mod Vector

@@ -44,9 +44,13 @@ mul a b = fixed_of_products (a *ℤ b)
 abbrev pub div : ℤ → ℤ → ℤ
 div a b = nearest_fixed (floor_quotient (pos 65536 *ℤ a) b)
 
+-- the GLfixed that holds this number
+abbrev pub fixed : ℤ → Fx
+fixed z = record { 0 = z }
+
 -- component k of a vector
 abbrev pub component : List Fx → ℕ → ℤ
-component vector k = (slice_index_or vector k (record { 0 = pos 0 })).0
+component vector k = (slice_index_or vector k (fixed (pos 0))).0
 
 -- inner products: the products of the components are added exactly and rounded down once
 abbrev pub dot3 : List Fx → List Fx → ℤ

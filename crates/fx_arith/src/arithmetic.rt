@@ -33,8 +33,8 @@ pub fn div(a: Fx, b: i64) -> Fx
     saturate(floor_quotient(product(Fx::ONE, a), b))
 }
 
-/// The exact product, which has 32 fractional bits.
-pub(crate) fn product(a: Fx, b: Fx) -> i64
+/// The exact product, in units of 1/65536 squared.
+pub fn product(a: Fx, b: Fx) -> i64
     ensures value { result ≡ a.0 *ℤ b.0 }
     ensures bound { unsigned_abs result ≤ 2 ^ 62 }
 {

@@ -2,7 +2,7 @@ ghost use Rattle.std.specs.Prelude.{◌≡◌, ◌≤◌, ◌*◌, ◌^◌, ◌+
 ghost use Rattle.fx_arith.specs.Number.{dot3 as dot3_of, dot4 as dot4_of, fixed_of_products};
 
 use crate::arithmetic::product;
-use crate::fx::Fx;
+use crate::fx::{Fx, saturate_wide};
 
 /// The inner product of two vectors: the products are added exactly, the sum is rounded down once and
 /// saturated.
@@ -42,12 +42,5 @@ fn sum4(x: i64, y: i64, z: i64, w: i64) -> i128
 fn narrow(products: i128) -> Fx
     ensures { result.0 ≡ fixed_of_products products }
 {
-    let raw = products >> 16;
-    if raw < -2147483648 {
-        Fx(i32::MIN)
-    } else if 2147483647 < raw {
-        Fx(i32::MAX)
-    } else {
-        Fx(raw as i32)
-    }
+    saturate_wide(products >> 16)
 }

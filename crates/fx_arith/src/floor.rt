@@ -22,10 +22,18 @@ pub fn floor_div_wide(z: i128, divisor: u64) -> i128
     ensures value { result ≡ floor_of z divisor }
     ensures bound { unsigned_abs result ≤ unsigned_abs z }
 {
+    floor_div_128(z, u128::from(divisor))
+}
+
+fn floor_div_128(z: i128, divisor: u128) -> i128
+    requires { 0 < divisor }
+    ensures value { result ≡ floor_of z divisor }
+    ensures bound { unsigned_abs result ≤ unsigned_abs z }
+{
     if 0 <= z {
-        (z.unsigned_abs() / u128::from(divisor)) as i128
+        (z.unsigned_abs() / divisor) as i128
     } else {
-        -1 - ((z + 1).unsigned_abs() / u128::from(divisor)) as i128
+        -1 - ((z + 1).unsigned_abs() / divisor) as i128
     }
 }
 
@@ -54,5 +62,19 @@ pub fn floor_quotient_wide(z: i128, divisor: i64) -> i128
         floor_div_wide(z, divisor.unsigned_abs())
     } else {
         floor_div_wide(-z, divisor.unsigned_abs())
+    }
+}
+
+/// [`floor_quotient_wide`] by a divisor of 128 bits.
+pub fn floor_quotient_128(z: i128, divisor: i128) -> i128
+    requires divisor { divisor ≢ pos 0 }
+    requires negatable { unsigned_abs z < 2 ^ 127 }
+    ensures value { result ≡ floor_of_quotient z divisor }
+    ensures bound { unsigned_abs result ≤ unsigned_abs z }
+{
+    if 0 < divisor {
+        floor_div_128(z, divisor.unsigned_abs())
+    } else {
+        floor_div_128(-z, divisor.unsigned_abs())
     }
 }

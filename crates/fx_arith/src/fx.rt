@@ -39,3 +39,16 @@ pub fn saturate(raw: i64) -> Fx
         Fx(raw as i32)
     }
 }
+
+/// [`saturate`] on 128 bits.
+pub fn saturate_wide(raw: i128) -> Fx
+    ensures { result.0 ≡ nearest_fixed raw }
+{
+    if raw < -2147483648 {
+        Fx(i32::MIN)
+    } else if 2147483647 < raw {
+        Fx(i32::MAX)
+    } else {
+        Fx(raw as i32)
+    }
+}

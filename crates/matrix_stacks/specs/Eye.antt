@@ -1,0 +1,52 @@
+-- Normals and planes in eye coordinates, by the upper three rows and columns of the modelview matrix
+-- (OpenGL ES 1.1.12, 2.10.3 and 2.11). All is exact on raw numbers until a component is rounded down and
+-- saturated, which is this project's own.
+use Rattle.std.specs.Prelude.{ℕ, ℤ, pos, ◌+◌, ◌%◌, ◌+ℤ◌, ◌-ℤ◌, ◌*ℤ◌, List, [], ◌∷◌, ◌++◌, if◌then◌else◌}
+use Rattle.std.specs.Ordering.{int_eq}
+use Rattle.fx_arith.specs.declared.fx.Fx.{Fx}
+use Rattle.fx_arith.specs.declared.mat4.Mat4.{Mat4}
+use Rattle.fx_arith.specs.Matrix.{entry, column}
+use Rattle.fx_arith.specs.Number.{component, dot3, fixed, floor_quotient, nearest_fixed, one, sub}
+
+-- the cofactor of row i and column j: the determinant of the other two rows and columns, each in the order
+-- in which they follow i and j round
+unfoldable pub cofactor : Mat4 → ℕ → ℕ → ℤ
+cofactor m i j =
+    entry m ((i + 1) % 3) ((j + 1) % 3) *ℤ entry m ((i + 2) % 3) ((j + 2) % 3)
+    -ℤ entry m ((i + 1) % 3) ((j + 2) % 3) *ℤ entry m ((i + 2) % 3) ((j + 1) % 3)
+
+-- the determinant, by the entries of row 0
+unfoldable pub determinant : Mat4 → ℤ
+determinant m = cofactor m 0 0 *ℤ entry m 0 0 +ℤ cofactor m 0 1 *ℤ entry m 0 1 +ℤ cofactor m 0 2 *ℤ entry m 0 2
+
+-- row i of the cofactors times a vector
+unfoldable pub along_row : Mat4 → ℕ → List Fx → ℤ
+along_row m i v = cofactor m i 0 *ℤ component v 0 +ℤ cofactor m i 1 *ℤ component v 1 +ℤ cofactor m i 2 *ℤ component v 2
+
+-- a sum over the determinant, as a GLfixed
+unfoldable pub over_determinant : ℤ → ℤ → ℤ
+over_determinant sum det = nearest_fixed (floor_quotient (one *ℤ sum) det)
+
+-- component i of a normal times the inverse of the matrix
+abbrev pub normal_component : Mat4 → List Fx → ℕ → Fx
+normal_component m n i = fixed (over_determinant (along_row m i n) (determinant m))
+
+-- a normal in eye coordinates; where the matrix has no inverse it stays
+unfoldable pub normal_to_eye : Mat4 → List Fx → List Fx
+normal_to_eye m n =
+    if int_eq (determinant m) (pos 0) then n else normal_component m n 0 ∷ normal_component m n 1 ∷ normal_component m n 2 ∷ []
+
+-- the first three components of a vector
+abbrev pub first_three : List Fx → List Fx
+first_three v = fixed (component v 0) ∷ fixed (component v 1) ∷ fixed (component v 2) ∷ []
+
+-- the translation of a matrix
+abbrev pub translation : Mat4 → List Fx
+translation m = first_three (column m 3)
+
+-- a plane a x + b y + c z + d = 0 in eye coordinates: (a, b, c) as a normal, and d less its product with the
+-- translation; the matrix's last row is taken as 0 0 0 1
+unfoldable pub plane_to_eye : Mat4 → List Fx → List Fx
+plane_to_eye m plane =
+    let n = normal_to_eye m (first_three plane) in
+    first_three n ++ fixed (sub (component plane 3) (dot3 n (translation m))) ∷ []
