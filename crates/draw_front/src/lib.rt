@@ -17,6 +17,8 @@ mod draws;
 mod front;
 mod pending;
 mod step;
+#[cfg(test)]
+mod tests;
 mod vertex;
 
 pub use draws::{opening_rules, triangle};
