@@ -41,7 +41,8 @@ pub fn spelling(rec: &Rec) -> Option<Spelled<'_>>
             green,
             blue,
             alpha,
-        } => Some(Spelled::of_words(
+        } => Some(Spelled::new(
+            rec,
             0x62,
             &[
                 fixed_word(*red),
@@ -50,7 +51,7 @@ pub fn spelling(rec: &Rec) -> Option<Spelled<'_>>
                 fixed_word(*alpha),
             ],
         )),
-        Rec::Clear { mask } => Some(Spelled::of_words(0x65, &[*mask])),
+        Rec::Clear { mask } => Some(Spelled::new(rec, 0x65, &[*mask])),
         _ => None,
     }
 }

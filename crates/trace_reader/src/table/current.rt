@@ -40,7 +40,8 @@ pub fn spelling(rec: &Rec) -> Option<Spelled<'_>>
             green,
             blue,
             alpha,
-        } => Some(Spelled::of_words(
+        } => Some(Spelled::new(
+            rec,
             0x19,
             &[
                 fixed_word(*red),
