@@ -65,9 +65,9 @@ pub fn spelling(rec: &Rec) -> Option<Spelled<'_>>
             rec,
             0x11,
             &[
-                signed_word(*size),
+                signed_word(size),
                 *kind,
-                signed_word(*stride),
+                signed_word(stride),
                 *region,
                 *offset,
             ],
@@ -77,7 +77,7 @@ pub fn spelling(rec: &Rec) -> Option<Spelled<'_>>
         Rec::DrawArrays { mode, first, count } => Some(Spelled::new(
             rec,
             0x1D,
-            &[*mode, signed_word(*first), signed_word(*count)],
+            &[*mode, signed_word(first), signed_word(count)],
         )),
         _ => None,
     }
