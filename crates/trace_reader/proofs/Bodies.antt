@@ -120,6 +120,10 @@ front_is len taken first front rest later false least size within took end test 
     let sum : length rest ≡ length (take taken front) + length later = ap length took ∙ length-append (take taken front) later in
     record { size = size ∙ least; parts = λ is. absurd cc; short = λ is. omega (arith, length-take-le taken front within, ap length (end part)) }
 
+-- the part of the buffer that was filled
+pub front_size : (len first : ℕ) (front into : List ℕ) → front ≡ into → length into ≡ first → first ≡ min len 64 → length front ≡ min len 64
+front_size len first front into same size least = ap length same ∙ size ∙ least
+
 -- ---- the record of a payload that was read in parts
 
 -- the piece: what was read with the words, and what was read behind it

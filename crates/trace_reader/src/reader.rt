@@ -88,7 +88,7 @@ impl Reader {
         // End isn't counted. The offset moves by the bytes that the record takes, and the source with it.
         ensures index { self.old.stage ≡ Stage.Reading → IfOk result (λ rec. self.new.index ≡ index_after self.old.index rec) }
         ensures moves { self.old.stage ≡ Stage.Reading
-            → IfSome (S.rest source.old) (λ bytes. IfOk result (λ rec. MovesOver self.old bytes rec self.new (S.rest source.new))) }
+            → IfSome (S.rest source.old) (λ bytes. IfOk result (λ rec. MovesOver self.old.offset bytes rec self.new.offset (S.rest source.new))) }
 
         // Each record takes eight bytes or more of the greatest trace, so there is an end to them.
         ensures advances { IfOk result (λ rec. is_end_record rec ≡ false → self.old.offset + 8 ≤ self.new.offset) }

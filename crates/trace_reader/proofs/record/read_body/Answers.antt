@@ -1,6 +1,6 @@
 use Rattle.std.proofs.Common.{◌≡◌, min, length, None, sym, rules}
 use Rattle.std.proofs.lemmas.Slice.{overwrites}
-use Rattle.trace_reader.proofs.Bodies.{unknown_read, body_read, body_not_read}
+use Rattle.trace_reader.proofs.Bodies.{front_size, unknown_read, body_read, body_not_read}
 use Rattle.trace_reader.proofs.record.read_body.Goals as goal
 
 pub returns-in-Ok-clause-body : goal.returns-in-Ok-clause-body
@@ -18,3 +18,9 @@ returns-in-Err-clause-body g c =
 
 pub returns-in-None-clause-body : goal.returns-in-None-clause-body
 returns-in-None-clause-body g c = unknown_read _ None c.args.offset c.args.head c.read_u32_into.new.dst (sym c.in-None.ensures.row)
+
+pub read_behind-requires-clause-front : goal.read_behind-requires-clause-front
+read_behind-requires-clause-front g c =
+    let least : c.min-first.result ≡ min c.args.head.length 64 = search rules in
+    let size : length c.fill.new.into ≡ c.min-first.result = search rules in
+    λ κs held. front_size c.args.head.length c.min-first.result _ c.fill.new.into (search (rules, overwrites)) size least
