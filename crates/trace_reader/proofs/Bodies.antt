@@ -8,7 +8,7 @@ use Rattle.std.proofs.lemmas.List.{take_all, drop-append-le, length-append, leng
 use Rattle.byteorder.specs.Endian.{little_number, IsRead}
 use Rattle.gl_records.specs.declared.rec.Rec.{Rec}
 use Rattle.trace_reader.specs.declared.cause.Cause.{Cause}
-use Rattle.trace_reader.specs.declared.cause.Cause.TheVariants.{Short, TooLong, BadLength}
+use Rattle.trace_reader.specs.declared.cause.Cause.TheVariants.{Short, UnknownOp, TooLong, BadLength}
 use Rattle.trace_reader.specs.declared.record.Head.{Head}
 use Rattle.trace_reader.specs.declared.record.Stop.{Stop}
 use Rattle.trace_reader.specs.declared.record.Stop.TheVariants.{Malformed, Failed, NoMemory}
@@ -94,6 +94,14 @@ is_row opcode n (Some layout) shape rec here given =
     let same : (layout.0, layout.1 n) ≡ (shape, rec) = cc in
     record { layout = layout; found = here; shaped = ap (λ (y : Shape × Rec). y.0) same; makes = ap (λ (y : Shape × Rec). y.1) same }
 
+no_row : (n : List ℕ) (found : Option Layout) → with_words n found ≡ None → found ≡ None
+no_row n None given = refl
+no_row n (Some layout) given = absurd cc
+
+pub unknown_read : (known left : Option (List ℕ)) (offset : ℕ) (head : Head) (n : List ℕ) → with_words n (row head.opcode) ≡ None → IfSome known (λ rest. BodyRead offset head rest (Err (Malformed UnknownOp)) left)
+unknown_read None left offset head n given = tt
+unknown_read (Some rest) left offset head n given = ap (body offset head.length rest) (no_row n _ given)
+
 -- ---- the first bytes of a payload
 
 -- the first bytes of a payload of `len` bytes: as many as the words take at most, and whether the source had them
@@ -111,6 +119,10 @@ front_is len taken first front rest later false least size within took end test 
     let part : taken < length front = omega (arith, eqb-false _ _ test) in
     let sum : length rest ≡ length (take taken front) + length later = ap length took ∙ length-append (take taken front) later in
     record { size = size ∙ least; parts = λ is. absurd cc; short = λ is. omega (arith, length-take-le taken front within, ap length (end part)) }
+
+-- the part of the buffer that was filled
+pub front_size : (len first : ℕ) (front into : List ℕ) → front ≡ into → length into ≡ first → first ≡ min len 64 → length front ≡ min len 64
+front_size len first front into same size least = ap length same ∙ size ∙ least
 
 -- ---- the record of a payload that was read in parts
 

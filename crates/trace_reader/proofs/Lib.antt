@@ -1,6 +1,7 @@
 pub mod Bodies
 pub mod Bytes
 pub mod Filled
+pub mod GivenBack
 pub mod Outcomes
 pub mod Pieces
 pub mod SpelledBytes

@@ -43,9 +43,9 @@ record IsRow (rec : Rec) (command : Command) : Type 0 where
   makes : record_from layout (payload command) ≡ rec
 
 is_row : (rec : Rec) (command : Command) (found : Option Layout) → ReadsBack rec command → row command.opcode ≡ found → IsRow rec command
-is_row rec command None back is = absurd (rw is at back.back)
+is_row rec command None back is = absurd (rw is at back.gives.made)
 is_row rec command (Some layout) back is =
-    let given = rw is at back.back in
+    let given = rw is at back.gives.made in
     let ns = command.words in
     let own : List ℕ = payload command in
     let counted : words_of layout.0 ≡ length ns = given.0 in
@@ -57,7 +57,7 @@ is_row rec command (Some layout) back is =
       allowed = ap (allows layout.0) size ∙ given.1;
       makes =
           ap (λ (piece : List ℕ). with_piece piece (layout.1 (words own))) (drop_at (words_bytes ns) command.piece (4 * words_of layout.0) front)
-          ∙ ap (λ (n : List ℕ). with_piece command.piece (layout.1 n)) (words-words_bytes ns command.piece back.words back.few)
+          ∙ ap (λ (n : List ℕ). with_piece command.piece (layout.1 n)) (words-words_bytes ns command.piece back.writable.words back.writable.few)
           ∙ given.2 (drop (length ns) (words own));
     }
 
@@ -66,7 +66,7 @@ record_at-command : (offset : ℕ) (rec : Rec) (command : Command) (rest : List 
 record_at-command offset rec command rest back short ends =
     let is = is_row rec command _ back refl in
     let own : List ℕ = payload command in
-    let begun = head-command command rest back.opcode (omega arith) in
+    let begun = head-command command rest back.writable.opcode (omega arith) in
     let taken : take (length own) (own ++ rest) ≡ own = take_at own rest (length own) refl in
     let met : IsAllowed offset (length own) is.layout.0 = record { short = short; ends = omega arith; allowed = is.allowed } in
     let passes = body-passes offset (length own) (own ++ rest) is.layout met (omega (arith, length-append own rest)) in
@@ -79,7 +79,10 @@ record_at-command offset rec command rest back short ends =
     ∙ ap (λ (n : ℕ). Ok (rec, n)) sum
 
 end-reads_back : ReadsBack End (spelling End)
-end-reads_back = record { opcode = lit< tt; words = All-nil (λ word. word < 2 ^ 32); few = lit≤ tt; back = (refl, refl, λ later. refl) }
+end-reads_back = record {
+  writable = record { opcode = lit< tt; words = All-nil (λ word. word < 2 ^ 32); few = lit≤ tt; piece = All-nil (λ byte. byte < 2 ^ 8) };
+  gives = record { made = (refl, refl, λ later. refl) };
+}
 
 tail-records_bytes : (index offset : ℕ) (records : List Rec) → All IsPlain records → offset + length (records_bytes records) ≤ greatest_trace → IsTail index offset (records_bytes records) records Ended
 tail-records_bytes index offset [] plain ends = record_at-command offset End (spelling End) [] end-reads_back (lit≤ tt) ends

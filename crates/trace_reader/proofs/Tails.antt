@@ -1,5 +1,5 @@
 -- What the bytes are from a place on, unfolded by one record.
-use Rattle.std.proofs.Common.{◌≡◌, ◌≢◌, ◌≤◌, ◌+◌, ℕ, zero, suc, Bool, true, false, not, ◌||◌, eqb, ltb, List, [], ◌∷◌, length, take, drop, Option, Some, None, IfSome, Result, Ok, Err, refl, sym, ap, ◌∙◌, arith}
+use Rattle.std.proofs.Common.{◌≡◌, ◌≢◌, ◌≤◌, ◌+◌, ℕ, zero, suc, Bool, true, false, not, ◌||◌, eqb, ltb, List, [], ◌∷◌, length, take, drop, Option, Some, None, IfSome, Result, Ok, Err, refl, sym, ap, subst, ◌∙◌, arith}
 use Rattle.std.proofs.lemmas.Bool.{ltb-false, eq-eqb, ne_eqb}
 use Rattle.std.proofs.lemmas.List.{length-drop, nil_from_length}
 use Rattle.gl_records.specs.declared.rec.Rec.{Rec}
@@ -7,7 +7,7 @@ use Rattle.gl_records.specs.declared.rec.Rec.TheVariants.{End}
 use Rattle.trace_reader.specs.declared.cause.Cause.{Cause}
 use Rattle.trace_reader.specs.declared.cause.Cause.TheVariants.{Short, NoEnd, TooLong, BadLength, Trailing}
 use Rattle.trace_reader.specs.declared.record.Stop.TheVariants.{Malformed}
-use Rattle.trace_reader.specs.Reading.{ReadsAt}
+use Rattle.trace_reader.specs.Reading.{MovesOver, ReadsAt, TakenAt}
 use Rattle.trace_reader.specs.Steps.{RecordRead}
 use Rattle.trace_reader.specs.Command.{Layout}
 use Rattle.trace_reader.specs.Shape.{allows}
@@ -87,6 +87,12 @@ tail_at-step index offset (x ∷ bytes) =
 pub is_end-other : (rec : Rec) → (rec ≡ End → ⊥) → is_end rec ≡ false
 is_end-other End other = absurd (other refl)
 is_end-other _ other = refl
+
+-- a reader that moved by the bytes of the record that was read at its place
+pub moves_over : (known left : Option (List ℕ)) (old place new : ℕ) (rec : Rec) (n : ℕ) → place ≡ old → new ≡ place + n → IfSome known (λ bytes. TakenAt place bytes (rec, n) left) → IfSome known (λ bytes. MovesOver old bytes rec new left)
+moves_over None left old place new rec n same moved taken = tt
+moves_over (Some bytes) left old place new rec n same moved taken =
+    (n, moved ∙ ap (λ (m : ℕ). m + n) same, subst (λ (m : ℕ). TakenAt m bytes (rec, n) left) same taken)
 
 -- the answers at a place, from the record that was read there
 

@@ -56,9 +56,9 @@ Starts bytes (Err NoMemory) left = Unit {0}
 abbrev pub TakenAt : ℕ → List ℕ → Rec × ℕ → Option (List ℕ) → Type 0
 TakenAt offset bytes found left = (record_at offset bytes ≡ Ok found) × (left ≡ Some (drop found.1 bytes))
 
--- a reader of bytes moved over the record at its place
-abbrev pub MovesOver : Progress → List ℕ → Rec → Progress → Option (List ℕ) → Type 0
-MovesOver old bytes rec new left = (n : ℕ) × (new.offset ≡ old.offset + n) × TakenAt old.offset bytes (rec, n) left
+-- a reader of bytes moved over the record at its place: from one offset to another, by the bytes that it takes
+abbrev pub MovesOver : ℕ → List ℕ → Rec → ℕ → Option (List ℕ) → Type 0
+MovesOver old bytes rec new left = (n : ℕ) × (new ≡ old + n) × TakenAt old bytes (rec, n) left
 
 -- how many records a reader has counted after one more: End isn't one of them
 abbrev pub index_after : ℕ → Rec → ℕ

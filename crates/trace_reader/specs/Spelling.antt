@@ -27,16 +27,28 @@ spelling rec =
 abbrev pub AreWords : List ℕ → Type 0
 AreWords words = All (λ word. word < 2 ^ 32) words
 
--- the command reads back as the record: its opcode's row allows its length, and makes the record of its words, at
--- most 16, whatever words follow them, and of its piece
-pub record ReadsBack (rec : Rec) (command : Command) : Type 0 where
+-- a list of numbers that are bytes
+abbrev pub IsBytes : List ℕ → Type 0
+IsBytes bytes = All (λ byte. byte < 2 ^ 8) bytes
+
+-- a command that can be written: its opcode has 16 bits, its words, at most 16, have 32, and its piece is bytes
+pub record IsWritable (command : Command) : Type 0 where
   pub opcode : command.opcode < 2 ^ 16
   pub words : AreWords command.words
   pub few : length command.words ≤ 16
-  pub back : IsSomeAnd (row command.opcode) (λ layout.
-      (words_of layout.0 ≡ length command.words)
-      × (allows layout.0 (4 * length command.words + length command.piece) ≡ true)
-      × ((later : List ℕ) → with_piece command.piece (layout.1 (command.words ++ later)) ≡ rec))
+  pub piece : IsBytes command.piece
+
+-- the row of an opcode gives the record: it allows a payload of these words and this piece, and makes the record of
+-- the words, whatever words follow them, and of the piece
+pub record Gives (opcode : ℕ) (words piece : List ℕ) (rec : Rec) : Type 0 where
+  pub made : IsSomeAnd (row opcode) (λ layout.
+      (words_of layout.0 ≡ length words) × (allows layout.0 (4 * length words + length piece) ≡ true)
+      × ((later : List ℕ) → with_piece piece (layout.1 (words ++ later)) ≡ rec))
+
+-- the command can be written, and reads back as the record
+pub record ReadsBack (rec : Rec) (command : Command) : Type 0 where
+  pub writable : IsWritable command
+  pub gives : Gives command.opcode command.words command.piece rec
 
 -- words of 32 bits, each the lowest byte first
 abbrev pub words_bytes : List ℕ → List ℕ
@@ -61,14 +73,6 @@ records_bytes records = flat_map record_bytes (records ++ End ∷ [])
 -- the header and the records
 abbrev pub spell : Size → List Rec → List ℕ
 spell size records = codes "GLT1" ++ little_bytes 2 size.w ++ little_bytes 2 size.h ++ records_bytes records
-
--- a list of numbers that are bytes
-abbrev pub IsBytes : List ℕ → Type 0
-IsBytes bytes = All (λ byte. byte < 2 ^ 8) bytes
-
--- a record whose piece is bytes
-abbrev pub HasBytes : Rec → Type 0
-HasBytes rec = IsBytes (spelling rec).piece
 
 -- a record that may stand before End: it reads back, and there is room for its payload
 pub record IsPlain (rec : Rec) : Type 0 where

@@ -1,5 +1,5 @@
 -- The table of commands: opcode, length of the payload, and the fields as the payload has them.
-use Rattle.std.specs.Prelude.{ℕ, ◌*◌, nat_lt, List, drop, Option, if◌then◌else◌}
+use Rattle.std.specs.Prelude.{ℕ, ◌*◌, nat_lt, List, [], drop, Option, if◌then◌else◌}
 use Rattle.gl_records.specs.declared.rec.Rec.{Rec}
 use Rattle.gl_records.specs.declared.rec.Rec.TheVariants.{ClientBytes}
 use Rattle.trace_reader.specs.Arrays.{arrays_row}
@@ -22,6 +22,11 @@ row opcode =
 abbrev pub with_piece : List ℕ → Rec → Rec
 with_piece piece (ClientBytes region _) = ClientBytes region piece
 with_piece piece rec = rec
+
+-- the piece of a record, and no bytes where it has none
+abbrev pub piece_of : Rec → List ℕ
+piece_of (ClientBytes region piece) = piece
+piece_of rec = []
 
 -- the record that a payload makes: of its first sixteen words, zeros past its end, and of the bytes behind the
 -- words that the row begins with

@@ -44,7 +44,7 @@ mod tests {
         };
         let spelled = spell(&rec);
         assert_eq!(rt; spelled.opcode(), 0x11);
-        assert_eq!(rt; spelled.words(), &[3, 0x140C, 0xFFFF_FFFF, 2, 16]);
+        assert_eq!(rt; spelled.words(), [3, 0x140C, 0xFFFF_FFFF, 2, 16].as_slice());
         assert_eq!(rt; spelled.piece().len(), 0);
     }
 
@@ -56,8 +56,8 @@ mod tests {
         };
         let spelled = spell(&rec);
         assert_eq!(rt; spelled.opcode(), 0x10);
-        assert_eq!(rt; spelled.words(), &[5]);
-        assert_eq!(rt; spelled.piece(), &[1, 2, 3]);
+        assert_eq!(rt; spelled.words(), [5].as_slice());
+        assert_eq!(rt; spelled.piece(), [1, 2, 3].as_slice());
         Ok(())
     }
 }

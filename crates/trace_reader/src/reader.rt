@@ -2,7 +2,7 @@ ghost use Rattle.std.specs.Prelude.{◌≡◌, ◌≢◌, ◌⊎◌, ◌+◌, �
 ghost use Rattle.outer_io.specs.Faults.{Rose};
 ghost use Rattle.trace_reader.specs.Progress.{at_first_record};
 ghost use Rattle.gl_records.specs.Size.{IsSize};
-ghost use Rattle.trace_reader.specs.Trace.{is_end, is_side as is_side_length};
+ghost use Rattle.trace_reader.specs.Trace.{is_end as is_end_record, is_side as is_side_length};
 ghost use Rattle.trace_reader.specs.Reading.{BringsPiece, MovesOver, Reads, ReadsAt, Starts, TakenAt, index_after, stage_after};
 
 use crate::cause::{Cause, ReadEnd};
@@ -85,10 +85,10 @@ impl Reader {
         // End isn't counted. The offset moves by the bytes that the record takes, and the source with it.
         ensures index { self.old.stage ≡ Stage.Reading → IfOk result (λ rec. self.new.index ≡ index_after self.old.index rec) }
         ensures moves { self.old.stage ≡ Stage.Reading
-            → IfSome (S.rest source.old) (λ bytes. IfOk result (λ rec. MovesOver self.old bytes rec self.new (S.rest source.new))) }
+            → IfSome (S.rest source.old) (λ bytes. IfOk result (λ rec. MovesOver self.old.offset bytes rec self.new.offset (S.rest source.new))) }
 
         // Each record takes eight bytes or more of the greatest trace, so there is an end to them.
-        ensures advances { IfOk result (λ rec. is_end rec ≡ false → self.old.offset + 8 ≤ self.new.offset) }
+        ensures advances { IfOk result (λ rec. is_end_record rec ≡ false → self.old.offset + 8 ≤ self.new.offset) }
         ensures within { self.new.offset ≤ 2 ^ 28 }
 
         ensures read_fault { result ≡ Err ReadEnd.ReadFault
@@ -105,16 +105,12 @@ impl Reader {
         match read_at(self.alloc, self.index, self.offset, source) {
             Ok((rec, length)) => {
                 self.offset += length;
-                match rec {
-                    Rec::End => {
-                        self.stage = Stage::Ended;
-                        Ok(Rec::End)
-                    }
-                    rec => {
-                        self.index += 1;
-                        Ok(rec)
-                    }
+                if is_end(&rec) {
+                    self.stage = Stage::Ended;
+                    return Ok(rec);
                 }
+                self.index += 1;
+                Ok(rec)
             }
             Err(end) => {
                 self.stage = Stage::Stopped(end);
@@ -131,6 +127,15 @@ fn bad_header(cause: Cause) -> ReadEnd
         index: 0,
         offset: 0,
         cause,
+    }
+}
+
+fn is_end(rec: &Rec) -> bool
+    ensures { result ≡ is_end_record rec.now }
+{
+    match rec {
+        Rec::End => true,
+        _ => false,
     }
 }
 

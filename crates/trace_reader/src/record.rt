@@ -162,9 +162,10 @@ fn read_body<S: Source>(
     let whole = fill(source, &mut front[..first])? == first;
     let mut words = [0; 16];
     LittleEndian::read_u32_into(&front, &mut words);
+    let front = &front[..first];
     match row(alloc, opcode, &words) {
         Some((shape, rec)) => {
-            match read_behind(alloc, offset, length, shape, &front[..first], whole, source) {
+            match read_behind(alloc, offset, length, shape, front, whole, source) {
                 Ok(piece) => Ok((with_piece(rec, piece), 8 + length)),
                 Err(stop) => Err(stop),
             }

@@ -1,8 +1,9 @@
 //! A record as a trace has it.
-ghost use Rattle.std.specs.Prelude.{◌≡◌, ◌≤◌, [], length};
-ghost use Rattle.trace_reader.specs.Spelling.{ReadsBack, spelling as spelling_of};
+ghost use Rattle.std.specs.Prelude.{◌≡◌, ◌≤◌, length};
+ghost use Rattle.trace_reader.specs.Spelling.{Gives, IsWritable, ReadsBack, spelling as spelling_of};
+ghost use Rattle.trace_reader.specs.Table.{piece_of as record_piece};
 
-use crate::table::{arrays, clears, control, current};
+use crate::table::{arrays, clears, control, current, piece_of};
 use crate::words::Words;
 use gl_records::Rec;
 use std::marker::Model;
@@ -31,9 +32,10 @@ impl<'a> Model for Spelled<'a> {
 
 impl<'a> Spelled<'a> {
     /// A command of these words, at most 16, and of this piece.
-    pub(crate) fn new(opcode: u16, front: &[u32], piece: &'a [u8]) -> Spelled<'a>
+    fn of_parts(opcode: u16, front: &[u32], piece: &'a [u8]) -> Spelled<'a>
         requires { length front.now ≤ 16 }
-        ensures { result ≡ record { opcode = opcode; words = front.now; piece = piece.now } }
+        ensures parts { result ≡ record { opcode = opcode; words = front.now; piece = piece.now } }
+        ensures writable { IsWritable result }
     {
         let mut words = [0; 16];
         words[..front.len()].copy_from_slice(front);
@@ -45,12 +47,14 @@ impl<'a> Spelled<'a> {
         }
     }
 
-    /// A command of these words alone, at most 16.
-    pub(crate) fn of_words(opcode: u16, front: &[u32]) -> Spelled<'a>
-        requires { length front.now ≤ 16 }
-        ensures { result ≡ record { opcode = opcode; words = front.now; piece = [] } }
+    /// A record as a command of this opcode and of these words, at most 16; the record has the piece.
+    pub(crate) fn new(rec: &'a Rec, opcode: u16, front: &[u32]) -> Spelled<'a>
+        requires few { length front.now ≤ 16 }
+        requires gives { Gives opcode front.now (record_piece rec.now) rec.now }
+        ensures parts { result ≡ record { opcode = opcode; words = front.now; piece = record_piece rec.now } }
+        ensures back { ReadsBack rec.now result }
     {
-        Spelled::new(opcode, front, b"")
+        Spelled::of_parts(opcode, front, piece_of(rec))
     }
 
     /// The opcode.

@@ -2,7 +2,7 @@
 ghost use Rattle.std.specs.Prelude.{◌≡◌, ◌≤◌, IfSome};
 ghost use Rattle.trace_reader.specs.Command.{with_words};
 ghost use Rattle.trace_reader.specs.Shape.{words_of};
-ghost use Rattle.trace_reader.specs.Table.{row as row_of, with_piece as record_with_piece};
+ghost use Rattle.trace_reader.specs.Table.{row as row_of, piece_of as record_piece, with_piece as record_with_piece};
 
 pub mod arrays;
 pub mod clears;
@@ -39,5 +39,15 @@ pub fn with_piece(rec: Rec, piece: Bytes) -> Rec
     match rec {
         Rec::ClientBytes { region, .. } => Rec::ClientBytes { region, piece },
         rec => rec,
+    }
+}
+
+/// The piece of a record, and no bytes where it has none.
+pub fn piece_of(rec: &Rec) -> &[u8]
+    ensures { result.now ≡ record_piece rec.now }
+{
+    match rec {
+        Rec::ClientBytes { piece, .. } => piece.as_slice(),
+        _ => b"",
     }
 }

@@ -22,17 +22,17 @@ pub fn fixed(word: u32) -> Fx
 }
 
 /// A number with a sign as a word.
-pub fn signed_word(number: i32) -> u32
-    ensures word { result ≡ cast_unsigned w32 number }
-    ensures back { cast_signed w32 result ≡ number }
+pub fn signed_word(number: &i32) -> u32
+    ensures word { result ≡ cast_unsigned w32 number.now }
+    ensures back { cast_signed w32 result ≡ number.now }
 {
     number.cast_unsigned()
 }
 
 /// A GLfixed as a word.
-pub fn fixed_word(number: Fx) -> u32
-    ensures word { result ≡ cast_unsigned w32 number.0 }
-    ensures back { cast_signed w32 result ≡ number.0 }
+pub fn fixed_word(number: &Fx) -> u32
+    ensures word { result ≡ cast_unsigned w32 number.now.0 }
+    ensures back { cast_signed w32 result ≡ number.now.0 }
 {
     number.0.cast_unsigned()
 }

@@ -54,30 +54,30 @@ pub fn spelling(rec: &Rec) -> Option<Spelled<'_>>
     ensures back { IfSome result (ReadsBack rec.now) }
 {
     match rec {
-        Rec::ClientBytes { region, piece } => {
-            Some(Spelled::new(0x10, &[*region], piece.as_slice()))
-        }
+        Rec::ClientBytes { region, .. } => Some(Spelled::new(rec, 0x10, &[*region])),
         Rec::VertexPointer {
             size,
             kind,
             stride,
             region,
             offset,
-        } => Some(Spelled::of_words(
+        } => Some(Spelled::new(
+            rec,
             0x11,
             &[
-                signed_word(*size),
+                signed_word(size),
                 *kind,
-                signed_word(*stride),
+                signed_word(stride),
                 *region,
                 *offset,
             ],
         )),
-        Rec::EnableClientState { array } => Some(Spelled::of_words(0x15, &[*array])),
-        Rec::DisableClientState { array } => Some(Spelled::of_words(0x16, &[*array])),
-        Rec::DrawArrays { mode, first, count } => Some(Spelled::of_words(
+        Rec::EnableClientState { array } => Some(Spelled::new(rec, 0x15, &[*array])),
+        Rec::DisableClientState { array } => Some(Spelled::new(rec, 0x16, &[*array])),
+        Rec::DrawArrays { mode, first, count } => Some(Spelled::new(
+            rec,
             0x1D,
-            &[*mode, signed_word(*first), signed_word(*count)],
+            &[*mode, signed_word(first), signed_word(count)],
         )),
         _ => None,
     }

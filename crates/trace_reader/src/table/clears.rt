@@ -41,16 +41,17 @@ pub fn spelling(rec: &Rec) -> Option<Spelled<'_>>
             green,
             blue,
             alpha,
-        } => Some(Spelled::of_words(
+        } => Some(Spelled::new(
+            rec,
             0x62,
             &[
-                fixed_word(*red),
-                fixed_word(*green),
-                fixed_word(*blue),
-                fixed_word(*alpha),
+                fixed_word(red),
+                fixed_word(green),
+                fixed_word(blue),
+                fixed_word(alpha),
             ],
         )),
-        Rec::Clear { mask } => Some(Spelled::of_words(0x65, &[*mask])),
+        Rec::Clear { mask } => Some(Spelled::new(rec, 0x65, &[*mask])),
         _ => None,
     }
 }

@@ -28,8 +28,8 @@ pub fn spelling(rec: &Rec) -> Option<Spelled<'_>>
     ensures back { IfSome result (ReadsBack rec.now) }
 {
     match rec {
-        Rec::End => Some(Spelled::of_words(0x01, &[])),
-        Rec::Swap => Some(Spelled::of_words(0x02, &[])),
+        Rec::End => Some(Spelled::new(rec, 0x01, &[])),
+        Rec::Swap => Some(Spelled::new(rec, 0x02, &[])),
         _ => None,
     }
 }

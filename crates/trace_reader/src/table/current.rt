@@ -40,13 +40,14 @@ pub fn spelling(rec: &Rec) -> Option<Spelled<'_>>
             green,
             blue,
             alpha,
-        } => Some(Spelled::of_words(
+        } => Some(Spelled::new(
+            rec,
             0x19,
             &[
-                fixed_word(*red),
-                fixed_word(*green),
-                fixed_word(*blue),
-                fixed_word(*alpha),
+                fixed_word(red),
+                fixed_word(green),
+                fixed_word(blue),
+                fixed_word(alpha),
             ],
         )),
         _ => None,
