@@ -2,8 +2,8 @@
 
 use super::support::{DRAWN, RED, REFUSED, TWO_FRAMES, run};
 use crate::top_call::glplay;
-use output_format::Status;
 use outer_io::{FromRead, MemSink, MemSource, NoGate, ToWrite};
+use output_format::Status;
 use std::alloc::{AllocError, Global};
 use std::io;
 use std::io::{ErrorKind, Read, Write};

@@ -1,9 +1,9 @@
 //! Colours between corners. The commands that there are give a draw one colour, so the triangle is put together
 //! here.
 
+use draw_front::{opening_rules, triangle};
 use fx_arith::Fx;
 use gl_records::{ClipVertex, Item, Size};
-use draw_front::{opening_rules, triangle};
 use std::test::Fail;
 use whole_surface::Surface;
 

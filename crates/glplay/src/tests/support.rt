@@ -1,8 +1,8 @@
 //! Traces as bytes, and runs over memory.
 
 use crate::top_call::glplay;
-use output_format::Status;
 use outer_io::{NeverSink, NeverSource, NoGate};
+use output_format::Status;
 use std::alloc::AllocError;
 use std::thread::Threads;
 
