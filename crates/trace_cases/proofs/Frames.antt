@@ -3,8 +3,8 @@ use Rattle.std.proofs.Common.{◌≡◌, ◌≤◌, ◌+◌, ◌-◌, ℕ, List,
 use Rattle.std.specs.Prelude.{codes}
 use Rattle.std.proofs.lemmas.List.{take-append-drop, drop-drop, append_assoc, length-drop, take_all}
 use Rattle.byteorder.specs.Endian.{little_bytes, little_number}
-use Rattle.trace_reader.proofs.Bytes.{AreBytes, AreBytes-drop, two_bytes, four_bytes}
-use Rattle.immediate_renderer.specs.Frames.{frame_header}
+use Rattle.trace_cases.proofs.Numbers.{AreBytes, AreBytes-drop, two_bytes, four_bytes}
+use Rattle.output_format.specs.Frames.{frame_header}
 
 -- what begins at a byte is a piece and what begins behind it
 piece : (k n m : ℕ) (bytes own : List ℕ) → m ≡ k + n → own ≡ take n (drop k bytes) → drop k bytes ≡ own ++ drop m bytes

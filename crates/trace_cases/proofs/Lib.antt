@@ -1,3 +1,4 @@
 pub mod Frames
+pub mod Numbers
 pub mod Statuses
 pub mod Words

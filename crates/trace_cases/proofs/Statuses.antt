@@ -1,9 +1,9 @@
 -- The status of a run that ends without a fault.
 use Rattle.std.proofs.Common.{◌≡◌, ℕ, List, Option, Ok}
 use Rattle.trace_reader.specs.Trace.{Ending, Ended, Malformed, Outcome, BadHeader, Readable}
-use Rattle.immediate_renderer.specs.Answer.{IsAnswer, Plays, PlaysOutcome, status_of_ending, status_of_outcome}
-use Rattle.immediate_renderer.specs.declared.status.Status.{Status}
-use Rattle.immediate_renderer.specs.declared.status.Status.TheVariants.{Done, BadWords, Refused, NoMemory, ReadFault, WriteFault}
+use Rattle.output_format.specs.Answer.{IsAnswer, Plays, PlaysOutcome, status_of_ending, status_of_outcome}
+use Rattle.output_format.specs.declared.status.Status.{Status}
+use Rattle.output_format.specs.declared.status.Status.TheVariants.{Done, BadWords, Refused, NoMemory, ReadFault, WriteFault}
 
 is_answer : (status expected : Status) → status ≡ expected → IsAnswer status expected
 is_answer Done expected is = is

@@ -2,7 +2,7 @@ use Rattle.std.proofs.Common.{◌++◌, List, ℕ, take, sym, ap, ◌∙◌, ari
 use Rattle.std.specs.Prelude.{codes}
 use Rattle.std.proofs.lemmas.List.{take-append-drop}
 use Rattle.std.proofs.lemmas.Slice.Eq.{bytes_eq-Decides}
-use Rattle.immediate_renderer.specs.Frames.{frame_header}
+use Rattle.output_format.specs.Frames.{frame_header}
 use Rattle.trace_cases.proofs.Frames.{header_spelled, all_from}
 use Rattle.trace_cases.proofs.frame.first_frame.Goals as goal
 
