@@ -3,7 +3,8 @@
 //! `specs/Trace.antt` says what every list of bytes is: a malformed header with its cause, or a size, a list
 //! of records and an ending, which is End or the first condition that makes the trace malformed. [`Reader`]
 //! takes the bytes of a source part by part and answers exactly that, record by record. The bytes that a
-//! command brings along are read into memory of their own, of the allocator that `start` was given.
+//! command brings along are read into memory of their own, of the allocator that `start` was given. [`spell`]
+//! goes the other way: a record as it is written, which reads back as the record.
 //!
 //! ```text
 //! let (mut reader, size) = Reader::start(alloc, &mut source)?;
