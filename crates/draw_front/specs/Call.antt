@@ -62,11 +62,14 @@ answered index items (context, Some error) =
 abbrev pub asked : Size → Context → ℕ → Rec → Called
 asked size context index rec = answered index (items_of size context rec) (commanded context rec)
 
--- the chunk that a record makes of the surface before it: Swap presents it
-abbrev pub chunk_of : Size → Surface → ℕ → Rec → Option (List ℕ)
-chunk_of size surface index Swap = Some (frame index size surface)
-chunk_of size surface index _ = None
+-- the chunk that a record without error makes of the surface before it: Swap presents it
+abbrev pub chunk_of : Size → Surface → ℕ → Rec → Option GlError → Option (List ℕ)
+chunk_of size surface index rec (Some error) = None
+chunk_of size surface index Swap None = Some (frame index size surface)
+chunk_of size surface index _ None = None
 
 -- the command of the record with this index, on this context and the surface before it
 abbrev pub called : Size → Context → Surface → ℕ → Rec → Called
-called size context surface index rec = record (asked size context index rec) { chunk = chunk_of size surface index rec }
+called size context surface index rec = record (asked size context index rec) {
+  chunk = chunk_of size surface index rec (asked size context index rec).error;
+}

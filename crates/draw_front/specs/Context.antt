@@ -70,8 +70,8 @@ clear_bits = 0x4500
 abbrev pub has_other_bits : ℕ → Bool
 has_other_bits mask = not (bit_and mask clear_bits == mask)
 
-abbrev pub names : ℕ → ℕ → Bool
-names mask bit = not (bit_and mask bit == 0)
+abbrev pub has_bit : ℕ → ℕ → Bool
+has_bit mask bit = not (bit_and mask bit == 0)
 
 -- every pixel of the surface
 abbrev pub whole : Size → PixelBox
@@ -82,9 +82,9 @@ whole size = record { x0 = pos 0; y0 = pos 0; x1 = pos size.w; y1 = pos size.h }
 abbrev pub clear_item : List Fx → ℕ → Size → ClearItem
 clear_item clear_color mask size = record {
   area = whole size;
-  color = if names mask 0x4000 then Some (map (λ component. c8 component.0) clear_color, true ∷ true ∷ true ∷ true ∷ []) else None;
-  depth = if names mask 0x0100 then Some GREATEST_DEPTH else None;
-  stencil = if names mask 0x0400 then Some (0, 255) else None;
+  color = if has_bit mask 0x4000 then Some (map (λ component. c8 component.0) clear_color, true ∷ true ∷ true ∷ true ∷ []) else None;
+  depth = if has_bit mask 0x0100 then Some GREATEST_DEPTH else None;
+  stencil = if has_bit mask 0x0400 then Some (0, 255) else None;
 }
 
 -- the error of Clear

@@ -11,6 +11,7 @@ pub struct PixelBox {
 }
 
 impl PixelBox {
+    /// Whether the pixel in column `x` from the left and row `y` from the bottom is one of the box.
     pub fn holds(&self, x: u16, y: u16) -> bool
         ensures { result ≡ box_holds self.now x y }
     {

@@ -32,6 +32,7 @@ impl ArrayKind {
         table!(read, code)
     }
 
+    /// The code of the array.
     pub fn code(self) -> u32
         ensures value { result ≡ code_of self }
         ensures back { from_code_of result ≡ Some self }

@@ -47,6 +47,7 @@ impl BlendFactor {
         table!(read, code)
     }
 
+    /// The code of the factor.
     pub fn code(self) -> u32
         ensures value { result ≡ code_of self }
         ensures back { from_code_of result ≡ Some self }

@@ -84,6 +84,7 @@ impl Cap {
         table!(read, code)
     }
 
+    /// The code of the capability.
     pub fn code(self) -> u32
         ensures value { result ≡ code_of self }
         ensures back { from_code_of result ≡ Some self }

@@ -41,6 +41,7 @@ impl CombineFunc {
         table!(read, code)
     }
 
+    /// The code of the function.
     pub fn code(self) -> u32
         ensures value { result ≡ code_of self }
         ensures back { from_code_of result ≡ Some self }

@@ -33,6 +33,7 @@ impl CombineOperand {
         table!(read, code)
     }
 
+    /// The code of the operand.
     pub fn code(self) -> u32
         ensures value { result ≡ code_of self }
         ensures back { from_code_of result ≡ Some self }

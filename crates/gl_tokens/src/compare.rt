@@ -40,6 +40,7 @@ impl Compare {
         table!(read, code)
     }
 
+    /// The code of the comparison.
     pub fn code(self) -> u32
         ensures value { result ≡ code_of self }
         ensures back { from_code_of result ≡ Some self }

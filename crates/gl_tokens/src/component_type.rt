@@ -34,6 +34,7 @@ impl ComponentType {
         table!(read, code)
     }
 
+    /// The code of the type.
     pub fn code(self) -> u32
         ensures value { result ≡ code_of self }
         ensures back { from_code_of result ≡ Some self }

@@ -36,6 +36,7 @@ impl EnvMode {
         table!(read, code)
     }
 
+    /// The code of the mode.
     pub fn code(self) -> u32
         ensures value { result ≡ code_of self }
         ensures back { from_code_of result ≡ Some self }

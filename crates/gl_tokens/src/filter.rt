@@ -37,6 +37,7 @@ impl Filter {
         table!(read, code)
     }
 
+    /// The code of the filter.
     pub fn code(self) -> u32
         ensures value { result ≡ code_of self }
         ensures back { from_code_of result ≡ Some self }

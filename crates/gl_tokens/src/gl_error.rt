@@ -36,6 +36,7 @@ impl GlError {
         table!(read, code)
     }
 
+    /// The code of the error.
     pub fn code(self) -> u32
         ensures value { result ≡ code_of self }
         ensures back { from_code_of result ≡ Some self }

@@ -56,6 +56,7 @@ impl LogicOp {
         table!(read, code)
     }
 
+    /// The code of the operation.
     pub fn code(self) -> u32
         ensures value { result ≡ code_of self }
         ensures back { from_code_of result ≡ Some self }

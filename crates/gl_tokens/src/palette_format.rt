@@ -45,6 +45,7 @@ impl PaletteFormat {
         table!(read, code)
     }
 
+    /// The code of the format.
     pub fn code(self) -> u32
         ensures value { result ≡ code_of self }
         ensures back { from_code_of result ≡ Some self }

@@ -140,6 +140,7 @@ impl Query {
         table!(read, code)
     }
 
+    /// The code of the value.
     pub fn code(self) -> u32
         ensures value { result ≡ code_of self }
         ensures back { from_code_of result ≡ Some self }

@@ -36,6 +36,7 @@ impl StencilOp {
         table!(read, code)
     }
 
+    /// The code of the operation.
     pub fn code(self) -> u32
         ensures value { result ≡ code_of self }
         ensures back { from_code_of result ≡ Some self }

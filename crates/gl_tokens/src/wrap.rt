@@ -28,6 +28,7 @@ impl Wrap {
         table!(read, code)
     }
 
+    /// The code of the mode.
     pub fn code(self) -> u32
         ensures value { result ≡ code_of self }
         ensures back { from_code_of result ≡ Some self }

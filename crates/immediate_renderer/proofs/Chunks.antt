@@ -8,18 +8,13 @@ use Rattle.gl_records.specs.declared.size.Size.{Size}
 use Rattle.gl_records.specs.Surface.{Surface}
 use Rattle.gl_tokens.specs.declared.gl_error.GlError.{GlError}
 use Rattle.output_format.specs.Frames.{frame}
-use Rattle.draw_front.specs.Call.{asked, chunk_of}
+use Rattle.draw_front.specs.Call.{chunk_of}
 use Rattle.draw_front.specs.Collecting.{answer_of, step_of}
-use Rattle.draw_front.specs.Context.{Context}
 use Rattle.draw_front.specs.Immediate.{joined}
 use Rattle.immediate_renderer.specs.Settled.{presented}
 
--- a record that presents nothing does so with an error too
-presented-nothing : (size : Size) (surface : Surface) (index : ℕ) (rec : Rec) (error : Option GlError) → presented size surface index (step_of rec) ≡ [] → presented size surface index (answer_of rec error) ≡ []
-presented-nothing size surface index rec None nothing = nothing
-presented-nothing size surface index rec (Some error) nothing = refl
-
-pub presented-chunk : (size : Size) (surface : Surface) (index : ℕ) (context : Context) (rec : Rec)
-    → presented size surface index (answer_of rec (asked size context index rec).error) ≡ joined (option_to_list (chunk_of size surface index rec))
-presented-chunk size surface index context Swap = sym (append-nil (frame index size surface))
-presented-chunk size surface index context rec = presented-nothing size surface index rec (asked size context index rec).error refl
+pub presented-chunk : (size : Size) (surface : Surface) (index : ℕ) (rec : Rec) (error : Option GlError)
+    → presented size surface index (answer_of rec error) ≡ joined (option_to_list (chunk_of size surface index rec error))
+presented-chunk size surface index rec (Some error) = refl
+presented-chunk size surface index Swap None = sym (append-nil (frame index size surface))
+presented-chunk size surface index rec None = refl

@@ -37,6 +37,7 @@ impl Model for MemSource {
 }
 
 impl MemSource {
+    /// These bytes, from the first on; the calls whose numbers, from 0, are in `fails` are faults.
     pub fn new(bytes: Vec<u8>, fails: Vec<u64>) -> MemSource
         ensures { result ≡ record { bytes = bytes.items; calls = 0; faults = 0; fails = fails.items } }
     {
@@ -106,6 +107,7 @@ impl Model for MemSink {
 }
 
 impl MemSink {
+    /// A sink that holds nothing yet; the calls whose numbers, from 0, are in `fails` are faults.
     pub fn new(alloc: Global, fails: Vec<u64>) -> MemSink
         ensures { result ≡ record { bytes = []; calls = 0; faults = 0; fails = fails.items } }
     {

@@ -25,6 +25,7 @@ impl Model for NeverSource {
 }
 
 impl NeverSource {
+    /// These bytes, from the first on.
     pub fn new(bytes: Vec<u8>) -> NeverSource
         ensures { result ≡ bytes.items }
     {
@@ -70,6 +71,7 @@ impl Model for NeverSink {
 }
 
 impl NeverSink {
+    /// A sink that holds nothing yet.
     pub fn new(alloc: Global) -> NeverSink
         ensures { result ≡ [] }
     {

@@ -39,6 +39,7 @@ pub struct ToWrite<W> {
 }
 
 impl<W: Write> ToWrite<W> {
+    /// A sink over this writer, with no fault so far.
     pub fn new(inner: W) -> ToWrite<W>
         ensures held { ⟦<ToWrite<W> as Sink>⟧.held result ≡ W.contents inner }
         ensures faults { ⟦<ToWrite<W> as Sink>⟧.faults result ≡ 0 }

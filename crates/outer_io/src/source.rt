@@ -35,6 +35,7 @@ pub struct FromRead<R> {
 }
 
 impl<R: Read + Send> FromRead<R> {
+    /// A source over this reader, with no fault so far.
     pub fn new(inner: R) -> FromRead<R>
         ensures rest { ⟦<FromRead<R> as Source>⟧.rest result ≡ R.remaining inner }
         ensures faults { ⟦<FromRead<R> as Source>⟧.faults result ≡ 0 }

@@ -18,6 +18,7 @@ pub enum Fault {
 }
 
 impl Fault {
+    /// The status of a run that stops for this.
     pub fn status(self) -> Status
         ensures { result ≡ status_of_fault self }
     {

@@ -1,7 +1,3 @@
-pub use Rattle.gl_records.specs.ClipVertex
-pub use Rattle.gl_records.specs.Coverage
-pub use Rattle.gl_records.specs.SetupRules
-pub use Rattle.gl_records.specs.Valid
 pub mod Bounds
 pub mod Facing
 pub mod Offset
