@@ -1,5 +1,5 @@
 -- The chunk of a record is what its step presents.
-use Rattle.std.proofs.Common.{◌≡◌, ℕ, [], Option, Some, None, refl, sym}
+use Rattle.std.proofs.Common.{◌≡◌, ℕ, Option, Some, None, refl, sym}
 use Rattle.std.specs.Prelude.{option_to_list}
 use Rattle.std.proofs.lemmas.List.{append-nil}
 use Rattle.gl_records.specs.declared.rec.Rec.{Rec}
@@ -9,7 +9,7 @@ use Rattle.gl_records.specs.Surface.{Surface}
 use Rattle.gl_tokens.specs.declared.gl_error.GlError.{GlError}
 use Rattle.output_format.specs.Frames.{frame}
 use Rattle.draw_front.specs.Call.{chunk_of}
-use Rattle.draw_front.specs.Collecting.{answer_of, step_of}
+use Rattle.draw_front.specs.Collecting.{answer_of}
 use Rattle.draw_front.specs.Immediate.{joined}
 use Rattle.immediate_renderer.specs.Settled.{presented}
 

@@ -1,5 +1,5 @@
 -- What a record's step says of the record.
-use Rattle.std.proofs.Common.{◌≡◌, ◌≢◌, ◌∙◌, ◌+◌, true, false, cond, refl, ap, arith}
+use Rattle.std.proofs.Common.{◌≡◌, ◌≢◌, ◌∙◌, ◌+◌, true, false, cond, refl, ap}
 use Rattle.gl_records.specs.declared.rec.Rec.{Rec}
 use Rattle.trace_reader.specs.Trace.{is_end}
 use Rattle.draw_front.specs.declared.step.Step.{Step}
