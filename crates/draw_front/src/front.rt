@@ -132,6 +132,13 @@ impl Front {
         Ok(self.pending.next(&self.context, self.size))
     }
 
+    /// The size of the surface.
+    pub fn size(&self) -> Size
+        ensures { result ≡ self.now.size }
+    {
+        self.size
+    }
+
     /// How many lines wait.
     pub fn lines(&self) -> u32
         ensures { result ≡ self.now.line_count }

@@ -56,7 +56,6 @@ fn play_records<R: Threads, S: Source, F: Sink, L: Sink>(
     requires reading { reader.old.stage ≡ Reading }
     requires counted { 8 * player.old.front.index ≤ reader.old.offset }
     requires settled { IsSettled player.old.front player.old.surface }
-    requires size { player.old.size ≡ player.old.front.size }
     requires within { reader.old.offset ≤ 2 ^ 28 }
     ensures frames { IfSome (S.rest trace.old) (λ bytes.
         Puts result (F.held frames.old) (F.held frames.new) (output_of_tail (playing player.old.front player.old.surface) (tail_of reader.old bytes)).frames) }

@@ -22,7 +22,6 @@ use whole_surface::Surface;
 #[derive(Drop)]
 pub struct Player {
     alloc: Global,
-    size: Size,
     pub front: Front,
     pub surface: Surface,
 }
@@ -33,13 +32,11 @@ impl Player {
         requires { IsSize size }
         ensures opening { IfOk result (λ player. playing player.front player.surface ≡ opening size) }
         ensures settled { IfOk result (λ player. IsSettled player.front player.surface) }
-        ensures size { IfOk result (λ player. player.size ≡ player.front.size) }
     {
         let surface = Surface::new(alloc, size)?;
         let front = Front::new(alloc, size)?;
         Ok(Player {
             alloc,
-            size,
             front,
             surface,
         })
@@ -53,13 +50,11 @@ impl Player {
         frames: &mut F,
         log: &mut L,
     ) -> Result<Step, Fault>
-        requires size { self.old.size ≡ self.old.front.size }
         requires settled { IsSettled self.old.front self.old.surface }
         requires countable { self.old.front.index + 1 < 2 ^ 32 }
         ensures ran { OnOk result (playing self.new.front self.new.surface ≡ after_record (playing self.old.front self.old.surface) rec) }
         ensures ended { IfOk result (λ step. is_ended step ≡ is_end rec) }
         ensures settled { OnOk result (IsSettled self.new.front self.new.surface) }
-        ensures size { OnOk result (self.new.size ≡ self.new.front.size) }
         ensures chunk { Puts result (F.held frames.old) (F.held frames.new) (joined (option_to_list (call (playing self.old.front self.old.surface) rec).chunk)) }
         ensures lines { Puts result (L.held log.old) (L.held log.new) (joined (call (playing self.old.front self.old.surface) rec).lines) }
         ensures write_fault { result ≡ Err Fault.WriteFault
@@ -78,28 +73,27 @@ impl Player {
 
     /// Puts the surface as a frame, where the step asks for it.
     fn present<F: Sink>(&self, step: Step, index: u32, frames: &mut F) -> Result<(), Fault>
-        ensures chunk { Puts result (F.held frames.old) (F.held frames.new) (presented self.now.size self.now.surface index step) }
+        ensures chunk { Puts result (F.held frames.old) (F.held frames.new) (presented self.now.front.size self.now.surface index step) }
         ensures write_fault { result ≡ Err Fault.WriteFault → Rose (F.faults frames.old) (F.faults frames.new) }
         ensures no_read_fault { result ≢ Err Fault.ReadFault }
         ensures faults { F.faults frames.old ≤ F.faults frames.new }
     {
         match step {
-            Step::Present => put_frame(self.alloc, frames, index, self.size, &self.surface),
+            Step::Present => put_frame(self.alloc, frames, index, self.front.size(), &self.surface),
             Step::Quiet | Step::Items | Step::Ended => Ok(()),
         }
     }
 
     /// Draws the items of the record, each wholly before the next.
     fn draw_items<R: Threads>(&mut self, rt: &R) -> Result<(), AllocError>
-        requires size { self.old.size ≡ self.old.front.size }
         requires shaped { IsShaped self.old.front.size self.old.surface }
         ensures drawn { OnOk result (self.new.surface ≡ drawn self.old.front.left self.old.surface) }
         ensures front { OnOk result (self.new.front ≡ record self.old.front { left = [] }) }
         ensures shaped { OnOk result (IsShaped self.new.front.size self.new.surface) }
-        ensures size { self.new.size ≡ self.old.size }
     {
+        let size = self.front.size();
         'items: while let Some(item) = self.front.next_item(rt)? {
-            self.surface.draw(self.size, &item);
+            self.surface.draw(size, &item);
         }
         Ok(())
     }
@@ -109,7 +103,6 @@ impl Player {
         ensures lines { Puts result (L.held log.old) (L.held log.new) self.old.front.lines }
         ensures front { self.new.front ≡ record self.old.front { lines = []; line_count = 0 } }
         ensures surface { self.new.surface ≡ self.old.surface }
-        ensures size { self.new.size ≡ self.old.size }
         ensures write_fault { result ≡ Err Fault.WriteFault → Rose (L.faults log.old) (L.faults log.new) }
         ensures no_read_fault { result ≢ Err Fault.ReadFault }
         ensures faults { L.faults log.old ≤ L.faults log.new }

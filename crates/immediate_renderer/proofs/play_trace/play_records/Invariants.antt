@@ -9,7 +9,6 @@ invariant-records g l = record {
   reading : l.reader.stage ≡ Reading;
   counted : 8 * l.player.front.index ≤ l.reader.offset;
   settled : IsSettled l.player.front l.player.surface;
-  size : l.player.size ≡ l.player.front.size;
   within : l.reader.offset ≤ 2 ^ 28;
   played : IsPlayed l.initial.reader l.reader (playing l.initial.player.front l.initial.player.surface) (playing l.player.front l.player.surface) (g.S.Source.rest l.initial.trace) (g.S.Source.rest l.trace) (g.F.Sink.held l.initial.frames) (g.F.Sink.held l.frames) (g.L.Sink.held l.initial.log) (g.L.Sink.held l.log);
   trace_faults : g.S.Source.faults l.initial.trace ≤ g.S.Source.faults l.trace;

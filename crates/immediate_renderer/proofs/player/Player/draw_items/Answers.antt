@@ -13,8 +13,8 @@ items-preserved g c =
     let item = captured c.in-Some.item in
     let left : c.items.self.front.left ≡ item ∷ later = rw c.in-Some.is at c.in_ok-item.ensures.items in
     let others = c.in_ok-item.ensures.others in
-    let size : c.items.self.size ≡ c.next_item.new.self.size =
-    c.items.invariant.size ∙ c.requires.size ∙ sym (ap (λ (front : Collecting). front.size) c.items.invariant.front) ∙ sym (ap (λ (front : Collecting). front.size) others) in
+    let of : Collecting → Size = λ (front : Collecting). front.size in
+    let size : c.size-size.result ≡ c.next_item.new.self.size = c.size-size.ensures ∙ sym (ap of c.items.invariant.front) ∙ sym (ap of others) in
     record {
       rest = ap (drawn later) c.draw.ensures.drawn
           ∙ sym (drawn-cons item later surface)
@@ -22,7 +22,6 @@ items-preserved g c =
           ∙ c.items.invariant.rest;
       front = others ∙ ap (λ (front : Collecting). let next : Collecting = record front { left = later } in next) c.items.invariant.front;
       shaped = subst (λ (size : Size). IsShaped size c.draw.new.self) size c.draw.ensures.shaped;
-      size = c.items.invariant.size;
     }
 
 pub returns-clause-drawn : goal.returns-clause-drawn

@@ -8,7 +8,6 @@ invariant-items g l = record {
   rest : drawn l.self.front.left l.self.surface ≡ drawn l.initial.self.front.left l.initial.self.surface;
   front : l.self.front ≡ (let next : Collecting = record l.initial.self.front { left = l.self.front.left } in next);
   shaped : IsShaped l.self.front.size l.self.surface;
-  size : l.self.size ≡ l.initial.self.size;
 }
 
 abbrev pub decreases-items : goal.decreases-items
