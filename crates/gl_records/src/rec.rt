@@ -31,18 +31,18 @@ pub enum Rec {
     DisableClientState {
         array: u32,
     },
+    /// Draws the vertices `first` to `first + count - 1` of the arrays (OpenGL ES 1.1.12, 2.8).
+    DrawArrays {
+        mode: u32,
+        first: i32,
+        count: i32,
+    },
     /// The colour of later vertices (OpenGL ES 1.1.12, 2.7).
     Color4x {
         red: Fx,
         green: Fx,
         blue: Fx,
         alpha: Fx,
-    },
-    /// Draws the vertices `first` to `first + count - 1` of the arrays (OpenGL ES 1.1.12, 2.8).
-    DrawArrays {
-        mode: u32,
-        first: i32,
-        count: i32,
     },
     /// The colour of later Clears (OpenGL ES 1.1.12, 4.2.3).
     ClearColorx {
