@@ -1,4 +1,4 @@
--- From a vertex's values to clip coordinates (OpenGL ES 1.1.12, 2.10 to 2.14): the matrices are the identity,
+-- From a vertex's values to clip coordinates (OpenGL ES 1.1.12, 2.10 to 2.12): the matrices are the identity,
 -- and lighting, fog and the clip plane are off.
 use Rattle.std.specs.Prelude.{ℤ, pos, ◌+ℤ◌, ◌-ℤ◌, Bool, ◌&&◌, List, [], ◌∷◌, map, int_le, slice_index_or}
 use Rattle.fx_arith.specs.Number.{component}

@@ -6,7 +6,7 @@ use crate::context::in_unit;
 use fx_arith::Fx;
 use gl_records::{Attribs, ClipVertex};
 
-/// The vertex in clip coordinates (OpenGL ES 1.1.12, 2.10 to 2.14): the matrices are the identity, and
+/// The vertex in clip coordinates (OpenGL ES 1.1.12, 2.10 to 2.12): the matrices are the identity, and
 /// lighting, fog and the clip plane are off.
 pub fn clip_vertex(vertex: &Attribs) -> ClipVertex
     ensures { result ≡ clip_vertex_of vertex.now }

@@ -1,14 +1,20 @@
 use crate::bytes::Bytes;
+use crate::params::Params;
 use fx_arith::Fx;
 
 /// A record of a trace: one command with its arguments. The reader makes it of the bytes, and the context
-/// runs it.
+/// runs it. Commands stand in groups by subject. An argument of one of GL's families is kept as its code, since
+/// only the command that runs says which codes it knows.
 #[derive(Drop)]
 pub enum Rec {
     /// The trace ends here.
     End,
     /// The surface is presented.
     Swap,
+    /// Commands before it are to be carried out soon; here they always are (OpenGL ES 1.1.12, 5.5).
+    Flush,
+    /// The error flag is answered and cleared (OpenGL ES 1.1.12, 2.5).
+    GetError,
     /// A client region holds these bytes from now on, and no others. Arrays are read from regions.
     ClientBytes {
         region: u32,
@@ -37,12 +43,161 @@ pub enum Rec {
         first: i32,
         count: i32,
     },
+    /// The texture unit that later commands of textures speak of (OpenGL ES 1.1.12, 2.7).
+    ActiveTexture {
+        texture: u32,
+    },
     /// The colour of later vertices (OpenGL ES 1.1.12, 2.7).
     Color4x {
         red: Fx,
         green: Fx,
         blue: Fx,
         alpha: Fx,
+    },
+    /// The same, in 255ths.
+    Color4ub {
+        red: u8,
+        green: u8,
+        blue: u8,
+        alpha: u8,
+    },
+    /// The normal of later vertices (OpenGL ES 1.1.12, 2.7).
+    Normal3x {
+        x: Fx,
+        y: Fx,
+        z: Fx,
+    },
+    /// The texture coordinates of later vertices, for one texture unit (OpenGL ES 1.1.12, 2.7).
+    MultiTexCoord4x {
+        texture: u32,
+        s: Fx,
+        t: Fx,
+        r: Fx,
+        q: Fx,
+    },
+    /// Where the window lies on the surface, in pixels (OpenGL ES 1.1.12, 2.10.1).
+    Viewport {
+        x: i32,
+        y: i32,
+        width: i32,
+        height: i32,
+    },
+    /// The depths of the near and of the far plane (OpenGL ES 1.1.12, 2.10.1).
+    DepthRangex {
+        near: Fx,
+        far: Fx,
+    },
+    /// Which triangles are culled: those that face front, back, or all (OpenGL ES 1.1.12, 3.5.1).
+    CullFace {
+        face: u32,
+    },
+    /// Which way round the corners of a triangle that faces front are seen to go (OpenGL ES 1.1.12, 2.12.1).
+    FrontFace {
+        winding: u32,
+    },
+    /// Flat or smooth shading (OpenGL ES 1.1.12, 2.12.6).
+    ShadeModel {
+        model: u32,
+    },
+    /// The size of points, in pixels (OpenGL ES 1.1.12, 3.3).
+    PointSizex {
+        size: Fx,
+    },
+    /// The width of lines, in pixels (OpenGL ES 1.1.12, 3.4).
+    LineWidthx {
+        width: Fx,
+    },
+    /// What is added to the depths of a triangle (OpenGL ES 1.1.12, 3.5.2).
+    PolygonOffsetx {
+        factor: Fx,
+        units: Fx,
+    },
+    /// How carefully something is to be done (OpenGL ES 1.1.12, 5.6).
+    Hint {
+        target: u32,
+        mode: u32,
+    },
+    /// Which samples of a pixel are covered (OpenGL ES 1.1.12, 4.1.3). There is one sample a pixel.
+    SampleCoveragex {
+        value: Fx,
+        invert: bool,
+    },
+    /// Switches a capability on.
+    Enable {
+        capability: u32,
+    },
+    /// Switches a capability off.
+    Disable {
+        capability: u32,
+    },
+    /// A parameter of fog (OpenGL ES 1.1.12, 3.8).
+    Fogx {
+        parameter: u32,
+        values: Params,
+    },
+    /// A parameter of the lighting model (OpenGL ES 1.1.12, 2.12.2).
+    LightModelx {
+        parameter: u32,
+        values: Params,
+    },
+    /// A parameter of the material (OpenGL ES 1.1.12, 2.12.2).
+    Materialx {
+        face: u32,
+        parameter: u32,
+        values: Params,
+    },
+    /// The alpha test: a comparison, and what alpha is compared with (OpenGL ES 1.1.12, 4.1.4).
+    AlphaFuncx {
+        comparison: u32,
+        reference: Fx,
+    },
+    /// The stencil test: a comparison, what is compared, and the bits of both that are (OpenGL ES 1.1.12, 4.1.5).
+    StencilFunc {
+        comparison: u32,
+        reference: i32,
+        mask: u32,
+    },
+    /// What becomes of a stencil value where the stencil test fails, where the depth test fails, and where both
+    /// pass (OpenGL ES 1.1.12, 4.1.5).
+    StencilOp {
+        stencil_fail: u32,
+        depth_fail: u32,
+        depth_pass: u32,
+    },
+    /// The bits of a stencil value that are written (OpenGL ES 1.1.12, 4.2.2).
+    StencilMask {
+        mask: u32,
+    },
+    /// The depth test: a comparison (OpenGL ES 1.1.12, 4.1.6).
+    DepthFunc {
+        comparison: u32,
+    },
+    /// Whether depths are written (OpenGL ES 1.1.12, 4.2.2).
+    DepthMask {
+        write: bool,
+    },
+    /// How the incoming colour and the one that is there are mixed (OpenGL ES 1.1.12, 4.1.7).
+    BlendFunc {
+        source: u32,
+        destination: u32,
+    },
+    /// The logical operation (OpenGL ES 1.1.12, 4.1.9).
+    LogicOp {
+        operation: u32,
+    },
+    /// Which components of a colour are written (OpenGL ES 1.1.12, 4.2.2).
+    ColorMask {
+        red: bool,
+        green: bool,
+        blue: bool,
+        alpha: bool,
+    },
+    /// The box outside of which nothing is drawn, in pixels (OpenGL ES 1.1.12, 4.1.2).
+    Scissor {
+        x: i32,
+        y: i32,
+        width: i32,
+        height: i32,
     },
     /// The colour of later Clears (OpenGL ES 1.1.12, 4.2.3).
     ClearColorx {
@@ -51,8 +206,27 @@ pub enum Rec {
         blue: Fx,
         alpha: Fx,
     },
+    /// The depth of later Clears (OpenGL ES 1.1.12, 4.2.3).
+    ClearDepthx {
+        depth: Fx,
+    },
+    /// The stencil value of later Clears (OpenGL ES 1.1.12, 4.2.3).
+    ClearStencil {
+        stencil: i32,
+    },
     /// Clears the buffers that the mask names: colour 0x4000, depth 0x0100, stencil 0x0400.
     Clear {
         mask: u32,
+    },
+    /// A parameter of the active unit's texture environment (OpenGL ES 1.1.12, 3.7.12).
+    TexEnvx {
+        target: u32,
+        parameter: u32,
+        values: Params,
+    },
+    /// How rows of pixels lie in memory (OpenGL ES 1.1.12, 3.6.1 and 4.3.1).
+    PixelStorei {
+        parameter: u32,
+        value: i32,
     },
 }
