@@ -63,3 +63,11 @@ dot4 a b = fixed_of_products (component a 0 *ℤ component b 0 +ℤ component a 
 -- (OpenGL ES 1.1.12, 2.12.8)
 abbrev pub c8 : ℤ → ℕ
 c8 component = (255 * unsigned_abs (clamp (pos 0) one component) + 32768) / 65536
+
+-- a component between 0 and 1, or the end of 0..1 that it lies beyond
+abbrev pub in_unit : Fx → Fx
+in_unit component = fixed (clamp (pos 0) one component.0)
+
+-- 255ths as a GLfixed, rounded down
+abbrev pub fixed_from_byte : ℕ → Fx
+fixed_from_byte byte = fixed (pos (65536 * byte / 255))

@@ -23,7 +23,7 @@ mod vector;
 
 pub use angle::{cos_deg, sin_deg};
 pub use arithmetic::{add, div, mul, product, sub};
-pub use color::c8;
+pub use color::{c8, fixed_from_byte, in_unit};
 pub use difference::span;
 pub use dot::{dot3, dot4};
 pub use floor::{
@@ -77,6 +77,11 @@ mod tests {
         assert_eq!(rt; floor_quotient_wide(7, -2), -4);
         assert_eq!(rt; floor_quotient_128(1 << 120, -3 << 100), -349526);
         assert_eq!(rt; c8(HALF), 128);
+        assert_eq!(rt; in_unit(Fx(-1)), Fx::ZERO);
+        assert_eq!(rt; in_unit(Fx(65537)), Fx::ONE);
+        assert_eq!(rt; fixed_from_byte(255), Fx::ONE);
+        assert_eq!(rt; fixed_from_byte(1), Fx(257));
+        assert_eq!(rt; fixed_from_byte(128), Fx(32896));
         assert_eq!(rt; span(i32::MAX, i32::MIN), -4294967295);
     }
 

@@ -1,0 +1,13 @@
+pub mod Blending
+pub mod Clears
+pub mod Current
+pub mod Environments
+pub mod ErrorFlag
+pub mod Fog
+pub mod FragmentTests
+pub mod Lighting
+pub mod Pixels
+pub mod Raster
+pub mod State
+pub mod Switches
+pub mod Values
