@@ -7,12 +7,19 @@ use Rattle.gl_records.specs.declared.rec.Rec.TheVariants.{End}
 use Rattle.gl_records.specs.declared.size.Size.{Size}
 use Rattle.gl_records.specs.Size.{IsSize}
 use Rattle.trace_reader.specs.Arrays.{arrays_spelling}
+use Rattle.trace_reader.specs.Blending.{blending_spelling}
 use Rattle.trace_reader.specs.Clears.{clears_spelling}
 use Rattle.trace_reader.specs.Command.{Command}
 use Rattle.trace_reader.specs.Control.{control_spelling}
 use Rattle.trace_reader.specs.Current.{current_spelling}
+use Rattle.trace_reader.specs.Environments.{environments_spelling}
+use Rattle.trace_reader.specs.Lighting.{lighting_spelling}
+use Rattle.trace_reader.specs.Pixels.{pixels_spelling}
+use Rattle.trace_reader.specs.Raster.{raster_spelling}
 use Rattle.trace_reader.specs.Shape.{words_of, allows}
+use Rattle.trace_reader.specs.Switches.{switches_spelling}
 use Rattle.trace_reader.specs.Table.{row, with_piece}
+use Rattle.trace_reader.specs.Tests.{tests_spelling}
 use Rattle.trace_reader.specs.Trace.{greatest_payload, greatest_trace}
 
 -- the command of a record: that of its group. Each record is of one group, so none is spelled with opcode 0.
@@ -21,7 +28,14 @@ spelling rec =
     unwrap_or (control_spelling rec) (
     unwrap_or (arrays_spelling rec) (
     unwrap_or (current_spelling rec) (
-    unwrap_or (clears_spelling rec) (record { opcode = 0; words = []; piece = [] }))))
+    unwrap_or (raster_spelling rec) (
+    unwrap_or (switches_spelling rec) (
+    unwrap_or (lighting_spelling rec) (
+    unwrap_or (tests_spelling rec) (
+    unwrap_or (blending_spelling rec) (
+    unwrap_or (clears_spelling rec) (
+    unwrap_or (environments_spelling rec) (
+    unwrap_or (pixels_spelling rec) (record { opcode = 0; words = []; piece = [] })))))))))))
 
 -- a list of words of 32 bits
 abbrev pub AreWords : List ℕ → Type 0

@@ -3,12 +3,19 @@ use Rattle.std.specs.Prelude.{ℕ, ◌*◌, nat_lt, List, [], drop, Option, if�
 use Rattle.gl_records.specs.declared.rec.Rec.{Rec}
 use Rattle.gl_records.specs.declared.rec.Rec.TheVariants.{ClientBytes}
 use Rattle.trace_reader.specs.Arrays.{arrays_row}
+use Rattle.trace_reader.specs.Blending.{blending_row}
 use Rattle.trace_reader.specs.Clears.{clears_row}
 use Rattle.trace_reader.specs.Command.{Layout}
 use Rattle.trace_reader.specs.Control.{control_row}
 use Rattle.trace_reader.specs.Current.{current_row}
+use Rattle.trace_reader.specs.Environments.{environments_row}
+use Rattle.trace_reader.specs.Lighting.{lighting_row}
 use Rattle.trace_reader.specs.Numbers.{words}
+use Rattle.trace_reader.specs.Pixels.{pixels_row}
+use Rattle.trace_reader.specs.Raster.{raster_row}
 use Rattle.trace_reader.specs.Shape.{words_of}
+use Rattle.trace_reader.specs.Switches.{switches_row}
+use Rattle.trace_reader.specs.Tests.{tests_row}
 
 -- the row of an opcode, a band of opcodes after the other; each band has one group of commands
 abbrev pub row : ℕ → Option Layout
@@ -16,7 +23,15 @@ row opcode =
     if nat_lt opcode 0x10 then control_row opcode else
     if nat_lt opcode 0x18 then arrays_row opcode else
     if nat_lt opcode 0x1D then current_row opcode else
-    if nat_lt opcode 0x20 then arrays_row opcode else clears_row opcode
+    if nat_lt opcode 0x20 then arrays_row opcode else
+    if nat_lt opcode 0x48 then raster_row opcode else
+    if nat_lt opcode 0x50 then switches_row opcode else
+    if nat_lt opcode 0x58 then lighting_row opcode else
+    if nat_lt opcode 0x5E then tests_row opcode else
+    if nat_lt opcode 0x61 then blending_row opcode else
+    if nat_lt opcode 0x62 then tests_row opcode else
+    if nat_lt opcode 0x7A then clears_row opcode else
+    if nat_lt opcode 0x7B then environments_row opcode else pixels_row opcode
 
 -- the record with this piece, where it has one. A list of words is made of its bytes here.
 abbrev pub with_piece : List ℕ → Rec → Rec

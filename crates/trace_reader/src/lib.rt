@@ -50,6 +50,19 @@ mod tests {
     }
 
     #[test]
+    fn a_color_of_bytes_is_one_word_and_red_its_lowest_byte(rt: HostRuntime) {
+        let rec = Rec::Color4ub {
+            red: 1,
+            green: 2,
+            blue: 3,
+            alpha: 4,
+        };
+        let spelled = spell(&rec);
+        assert_eq!(rt; spelled.opcode(), 0x1A);
+        assert_eq!(rt; spelled.words(), [0x0403_0201].as_slice());
+    }
+
+    #[test]
     fn client_bytes_are_a_word_and_the_bytes(rt: HostRuntime) -> Result<(), Fail> {
         let rec = Rec::ClientBytes {
             region: 5,

@@ -3,7 +3,10 @@ ghost use Rattle.std.specs.Prelude.{◌≡◌, ◌≤◌, length};
 ghost use Rattle.trace_reader.specs.Spelling.{Gives, IsWritable, ReadsBack, spelling as spelling_of};
 ghost use Rattle.trace_reader.specs.Table.{piece_of as record_piece};
 
-use crate::table::{arrays, clears, control, current, piece_of};
+use crate::table::{
+    arrays, blending, clears, control, current, environments, lighting, piece_of, pixels, raster,
+    switches, tests,
+};
 use crate::words::Words;
 use gl_records::Rec;
 use std::marker::Model;
@@ -93,7 +96,28 @@ pub fn spell(rec: &Rec) -> Spelled<'_>
     if let Some(spelled) = current::spelling(rec) {
         return spelled;
     }
-    match clears::spelling(rec) {
+    if let Some(spelled) = raster::spelling(rec) {
+        return spelled;
+    }
+    if let Some(spelled) = switches::spelling(rec) {
+        return spelled;
+    }
+    if let Some(spelled) = lighting::spelling(rec) {
+        return spelled;
+    }
+    if let Some(spelled) = tests::spelling(rec) {
+        return spelled;
+    }
+    if let Some(spelled) = blending::spelling(rec) {
+        return spelled;
+    }
+    if let Some(spelled) = clears::spelling(rec) {
+        return spelled;
+    }
+    if let Some(spelled) = environments::spelling(rec) {
+        return spelled;
+    }
+    match pixels::spelling(rec) {
         Some(spelled) => spelled,
         None => unreachable!(),
     }

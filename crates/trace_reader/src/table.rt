@@ -5,9 +5,16 @@ ghost use Rattle.trace_reader.specs.Shape.{words_of};
 ghost use Rattle.trace_reader.specs.Table.{row as row_of, piece_of as record_piece, with_piece as record_with_piece};
 
 pub mod arrays;
+pub mod blending;
 pub mod clears;
 pub mod control;
 pub mod current;
+pub mod environments;
+pub mod lighting;
+pub mod pixels;
+pub mod raster;
+pub mod switches;
+pub mod tests;
 
 use crate::shape::Shape;
 use crate::words::Words;
@@ -27,8 +34,24 @@ pub fn row(alloc: Global, opcode: u16, n: &Words) -> Option<(Shape, Rec)>
         current::row(opcode, n)
     } else if opcode < 0x20 {
         arrays::row(alloc, opcode, n)
-    } else {
+    } else if opcode < 0x48 {
+        raster::row(opcode, n)
+    } else if opcode < 0x50 {
+        switches::row(opcode, n)
+    } else if opcode < 0x58 {
+        lighting::row(opcode, n)
+    } else if opcode < 0x5E {
+        tests::row(opcode, n)
+    } else if opcode < 0x61 {
+        blending::row(opcode, n)
+    } else if opcode < 0x62 {
+        tests::row(opcode, n)
+    } else if opcode < 0x7A {
         clears::row(opcode, n)
+    } else if opcode < 0x7B {
+        environments::row(opcode, n)
+    } else {
+        pixels::row(opcode, n)
     }
 }
 

@@ -7,7 +7,7 @@ ghost use Rattle.trace_reader.specs.Command.{with_words};
 
 use crate::shape::Shape;
 use crate::spelled::Spelled;
-use crate::words::{Words, fixed, fixed_word};
+use crate::words::{Words, fixed, fixed_word, signed, signed_word};
 use gl_records::Rec;
 
 /// The row of an opcode, as `row` of the whole table answers it.
@@ -23,6 +23,13 @@ pub fn row(opcode: u16, n: &Words) -> Option<(Shape, Rec)>
                 green: fixed(n[1]),
                 blue: fixed(n[2]),
                 alpha: fixed(n[3]),
+            },
+        )),
+        0x63 => Some((Shape::Exactly(1), Rec::ClearDepthx { depth: fixed(n[0]) })),
+        0x64 => Some((
+            Shape::Exactly(1),
+            Rec::ClearStencil {
+                stencil: signed(n[0]),
             },
         )),
         0x65 => Some((Shape::Exactly(1), Rec::Clear { mask: n[0] })),
@@ -51,6 +58,8 @@ pub fn spelling(rec: &Rec) -> Option<Spelled<'_>>
                 fixed_word(alpha),
             ],
         )),
+        Rec::ClearDepthx { depth } => Some(Spelled::new(rec, 0x63, &[fixed_word(depth)])),
+        Rec::ClearStencil { stencil } => Some(Spelled::new(rec, 0x64, &[signed_word(stencil)])),
         Rec::Clear { mask } => Some(Spelled::new(rec, 0x65, &[*mask])),
         _ => None,
     }

@@ -1,4 +1,4 @@
-//! Commands of the whole trace: its end, and presenting the surface.
+//! Commands of the whole trace: its end, presenting the surface, and the error flag.
 ghost use Rattle.std.specs.Prelude.{◌≡◌, ◌≤◌, IfSome};
 ghost use Rattle.trace_reader.specs.Control.{control_row, control_spelling};
 ghost use Rattle.trace_reader.specs.Shape.{words_of};
@@ -18,6 +18,8 @@ pub fn row(opcode: u16, _n: &Words) -> Option<(Shape, Rec)>
     match opcode {
         0x01 => Some((Shape::Exactly(0), Rec::End)),
         0x02 => Some((Shape::Exactly(0), Rec::Swap)),
+        0x04 => Some((Shape::Exactly(0), Rec::Flush)),
+        0x05 => Some((Shape::Exactly(0), Rec::GetError)),
         _ => None,
     }
 }
@@ -30,6 +32,8 @@ pub fn spelling(rec: &Rec) -> Option<Spelled<'_>>
     match rec {
         Rec::End => Some(Spelled::new(rec, 0x01, &[])),
         Rec::Swap => Some(Spelled::new(rec, 0x02, &[])),
+        Rec::Flush => Some(Spelled::new(rec, 0x04, &[])),
+        Rec::GetError => Some(Spelled::new(rec, 0x05, &[])),
         _ => None,
     }
 }
