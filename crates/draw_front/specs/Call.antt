@@ -1,18 +1,23 @@
 -- One command: the context after it, its error, what it draws, the chunk and the lines that it makes.
-use Rattle.std.specs.Prelude.{ℕ, List, [], ◌∷◌, Option, Some, None}
+use Rattle.std.specs.Prelude.{ℕ, List, [], ◌∷◌, Option, Some, None, map, option_to_list}
 use Rattle.gl_records.specs.declared.rec.Rec.{Rec}
-use Rattle.gl_records.specs.declared.rec.Rec.TheVariants.{End, Swap, ClientBytes, VertexPointer, EnableClientState, DisableClientState, Color4x, DrawArrays, ClearColorx, Clear}
+use Rattle.gl_records.specs.declared.rec.Rec.TheVariants.{Swap, GetError, ClientBytes, VertexPointer, EnableClientState, DisableClientState, DrawArrays, Clear}
 use Rattle.gl_records.specs.declared.size.Size.{Size}
 use Rattle.gl_records.specs.Captured.{Captured}
+use Rattle.gl_records.specs.Captured as captured
 use Rattle.gl_records.specs.Surface.{Surface}
+use Rattle.gl_state.specs.declared.state.State.{State}
+use Rattle.gl_state.specs.Clears.{clear_error}
+use Rattle.gl_state.specs.ErrorFlag.{raised, flag_code}
+use Rattle.gl_state.specs.State.{ran, clear_item}
 use Rattle.gl_tokens.specs.Commands.{within}
 use Rattle.gl_tokens.specs.declared.gl_error.GlError.{GlError}
 use Rattle.output_format.specs.Frames.{frame}
-use Rattle.output_format.specs.Log.{raise_line}
+use Rattle.output_format.specs.Log.{raise_line, error_line}
 use Rattle.vertex_fetch.specs.declared.arrays.Arrays.{Arrays}
 use Rattle.vertex_fetch.specs.Arrays.{with_command}
 use Rattle.vertex_fetch.specs.Regions.{with_region}
-use Rattle.draw_front.specs.Context.{Context, with_clear_color, with_color, clear_error, clear_items}
+use Rattle.draw_front.specs.Context.{Context}
 use Rattle.draw_front.specs.Draws.{draw_error, draw_items}
 
 pub record Called : Type 0 where
@@ -25,42 +30,53 @@ pub record Called : Type 0 where
   -- the lines of the log, each with its line feed
   pub lines : List (List ℕ)
 
--- a command on the arrays, or on the client regions, and its error
+-- a command on a part of the context, and its error
+abbrev pub on_state : Context → State × Option GlError → Context × Option GlError
+on_state context = within (λ state. record context { state = state })
+
 abbrev pub on_arrays : Context → Arrays × Option GlError → Context × Option GlError
 on_arrays context = within (λ arrays. record context { arrays = arrays })
 
 abbrev pub on_regions : Context → List (List ℕ) × Option GlError → Context × Option GlError
 on_regions context = within (λ regions. record context { regions = regions })
 
--- the context after a command, and the command's error
+-- the context after a command, and the command's error; the flag doesn't have that error yet
 abbrev pub commanded : Context → Rec → Context × Option GlError
-commanded context End = (context, None)
-commanded context Swap = (context, None)
+commanded context GetError = (record context { flag = None }, None)
 commanded context (ClientBytes region piece) = on_regions context (with_region context.regions region piece)
 commanded context (VertexPointer size kind stride region offset) =
     on_arrays context (with_command context.arrays (VertexPointer size kind stride region offset))
 commanded context (EnableClientState array) = on_arrays context (with_command context.arrays (EnableClientState array))
 commanded context (DisableClientState array) = on_arrays context (with_command context.arrays (DisableClientState array))
-commanded context (Color4x red green blue alpha) = (with_color context red green blue alpha, None)
 commanded context (DrawArrays mode first count) = (context, draw_error mode first count)
-commanded context (ClearColorx red green blue alpha) = (with_clear_color context red green blue alpha, None)
 commanded context (Clear mask) = (context, clear_error mask)
+commanded context rec = on_state context (ran context.state rec)
 
 -- the items of a command that makes no error: only a draw and a Clear have some
 abbrev pub items_of : Size → Context → Rec → List Captured
 items_of size context (DrawArrays mode first count) = draw_items size context mode first count
-items_of size context (Clear mask) = clear_items context mask size
+items_of size context (Clear mask) = map captured.Clear (option_to_list (clear_item context.state mask size))
 items_of size context _ = []
 
+-- the line of a command that makes no error: GetError answers the flag
+abbrev pub line_of : Context → ℕ → Rec → Option (List ℕ)
+line_of context index GetError = Some (error_line index (flag_code context.flag))
+line_of context index _ = None
+
+-- the context with an error in its flag
+abbrev pub with_error : Context → GlError → Context
+with_error context error = record context { flag = raised context.flag error }
+
 -- a command with an error draws nothing, and has one line (OpenGL ES 1.1.12, 2.5)
-abbrev pub answered : ℕ → List Captured → Context × Option GlError → Called
-answered index items (context, None) = record { context = context; error = None; items = items; chunk = None; lines = [] }
-answered index items (context, Some error) =
-    record { context = context; error = Some error; items = []; chunk = None; lines = raise_line index error ∷ [] }
+abbrev pub answered : ℕ → List Captured → Option (List ℕ) → Context × Option GlError → Called
+answered index items line (context, None) =
+    record { context = context; error = None; items = items; chunk = None; lines = option_to_list line }
+answered index items line (context, Some error) =
+    record { context = with_error context error; error = Some error; items = []; chunk = None; lines = raise_line index error ∷ [] }
 
 -- what the record with this index asks for, but for what it reads of a surface
 abbrev pub asked : Size → Context → ℕ → Rec → Called
-asked size context index rec = answered index (items_of size context rec) (commanded context rec)
+asked size context index rec = answered index (items_of size context rec) (line_of context index rec) (commanded context rec)
 
 -- the chunk that a record without error makes of the surface before it: Swap presents it
 abbrev pub chunk_of : Size → Surface → ℕ → Rec → Option GlError → Option (List ℕ)

@@ -9,7 +9,7 @@ use Rattle.output_format.specs.Log.{raise_line}
 use Rattle.trace_reader.specs.Reading.{index_after}
 use Rattle.draw_front.specs.declared.step.Step.{Step}
 use Rattle.draw_front.specs.declared.step.Step.TheVariants.{Quiet, Items, Present, Ended}
-use Rattle.draw_front.specs.Call.{Called, asked}
+use Rattle.draw_front.specs.Call.{Called, asked, with_error}
 use Rattle.draw_front.specs.Context.{Context, opening_context}
 use Rattle.draw_front.specs.Immediate.{joined}
 
@@ -29,7 +29,7 @@ pub record Collecting : Type 0 where
 abbrev pub opening_front : Size → Collecting
 opening_front size = record {
   size = size;
-  context = opening_context;
+  context = opening_context size;
   left = [];
   lines = [];
   line_count = 0;
@@ -48,9 +48,12 @@ with_lines now lines = record now {
   line_count = now.line_count + length lines;
 }
 
--- the line of a record with an error, which is counted
+-- a record with an error has its line and is counted, and the flag has the error if it had none; all else stays
 abbrev pub with_refusal : Collecting → GlError → Collecting
-with_refusal now error = record (with_lines now (raise_line now.index error ∷ [])) { index = now.index + 1 }
+with_refusal now error = record (with_lines now (raise_line now.index error ∷ [])) {
+  context = with_error now.context error;
+  index = now.index + 1;
+}
 
 -- after a call: its context, its items to come, its lines behind those that wait
 abbrev pub after_call : Collecting → Called → Collecting

@@ -1,6 +1,7 @@
 -- What a draw makes of the arrays: its error, and its triangles as items (OpenGL ES 1.1.12, 2.6.1 and 2.8).
 use Rattle.std.specs.Prelude.{ℕ, ℤ, pos, ◌+◌, ◌*◌, ◌/◌, Bool, true, false, ◌&&◌, ◌||◌, ◌==◌, List, [], ◌∷◌, map, Option, Some, None, option_to_list, if◌then◌else◌, int_lt, is_none, unsigned_abs}
 use Rattle.std.specs.List.{flat_map, range_with_len}
+use Rattle.fx_arith.specs.Number.{one, fixed}
 use Rattle.gl_records.specs.declared.clip_vertex.ClipVertex.{ClipVertex}
 use Rattle.gl_records.specs.declared.prim.PrimKind.TheVariants.{Triangle}
 use Rattle.gl_records.specs.declared.prim.Primitive.{Primitive}
@@ -8,6 +9,7 @@ use Rattle.gl_records.specs.declared.setup_rules.SetupRules.{SetupRules}
 use Rattle.gl_records.specs.declared.size.Size.{Size}
 use Rattle.gl_records.specs.Captured.{Captured, Draw}
 use Rattle.gl_records.specs.ClipVertex.{vertex}
+use Rattle.gl_state.specs.Current.{attribs}
 use Rattle.gl_tokens.specs.declared.array_kind.ArrayKind.TheVariants.{Vertex}
 use Rattle.gl_tokens.specs.declared.gl_error.GlError.{GlError}
 use Rattle.gl_tokens.specs.declared.gl_error.GlError.TheVariants.{InvalidEnum, InvalidValue}
@@ -16,7 +18,7 @@ use Rattle.gl_tokens.specs.Mode as mode_codes
 use Rattle.primitive_setup.specs.Setup.{setup_of}
 use Rattle.vertex_fetch.specs.Arrays.{is_enabled, is_fixed}
 use Rattle.vertex_fetch.specs.Fetch.{fetch_of}
-use Rattle.draw_front.specs.Context.{Context, zero_fx, one_fx, current_values}
+use Rattle.draw_front.specs.Context.{Context}
 use Rattle.draw_front.specs.Vertex.{clip_vertex, is_in_volume}
 
 -- the greatest number of vertices of a draw
@@ -30,11 +32,11 @@ draw_error mode first count =
     if int_lt first (pos 0) then Some InvalidValue else
     if int_lt count (pos 0) || int_lt greatest_count count then Some InvalidValue else None
 
--- the state that set-up goes by, as it is before the first command: no command changes it yet
+-- the state that set-up goes by, as it is before the first command: what commands set has no effect yet
 abbrev pub opening_rules : Size → SetupRules
 opening_rules size = record {
   viewport = pos 0 ∷ pos 0 ∷ pos size.w ∷ pos size.h ∷ [];
-  range = zero_fx ∷ one_fx ∷ [];
+  range = fixed (pos 0) ∷ fixed one ∷ [];
   front_ccw = true;
   cull = None;
   two_side = false;
@@ -45,7 +47,7 @@ opening_rules size = record {
 
 -- vertex k of the arrays
 abbrev pub vertex_at : Context → ℕ → ClipVertex
-vertex_at context k = clip_vertex (fetch_of context.arrays context.regions (current_values context) k)
+vertex_at context k = clip_vertex (fetch_of context.arrays context.regions (attribs context.state.current) k)
 
 -- the corners of the triangle that begins at vertex k
 abbrev pub corners_at : Context → ℕ → List ClipVertex

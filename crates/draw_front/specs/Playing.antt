@@ -14,7 +14,7 @@ pub record Playing : Type 0 where
   pub index : ℕ
 
 abbrev pub opening : Size → Playing
-opening size = record { size = size; context = opening_context; surface = opening_surface size; index = 0 }
+opening size = record { size = size; context = opening_context size; surface = opening_surface size; index = 0 }
 
 -- the next record's command, on the surface before it
 abbrev pub call : Playing → Rec → Called

@@ -1,15 +1,14 @@
 -- From a vertex's values to clip coordinates (OpenGL ES 1.1.12, 2.10 to 2.12): the matrices are the identity,
 -- and lighting, fog and the clip plane are off.
 use Rattle.std.specs.Prelude.{ℤ, pos, ◌+ℤ◌, ◌-ℤ◌, Bool, ◌&&◌, List, [], ◌∷◌, map, int_le, slice_index_or}
-use Rattle.fx_arith.specs.Number.{component}
+use Rattle.fx_arith.specs.Number.{one, component, fixed, in_unit}
 use Rattle.fx_arith.specs.declared.fx.Fx.{Fx}
 use Rattle.gl_records.specs.declared.attribs.Attribs.{Attribs}
 use Rattle.gl_records.specs.declared.clip_vertex.ClipVertex.{ClipVertex}
-use Rattle.draw_front.specs.Context.{in_unit, zero_fx, one_fx}
 
 -- of the texture coordinates s t r q these are used
 abbrev pub stq : List Fx → List Fx
-stq coordinates = slice_index_or coordinates 0 zero_fx ∷ slice_index_or coordinates 1 zero_fx ∷ slice_index_or coordinates 3 zero_fx ∷ []
+stq coordinates = slice_index_or coordinates 0 (fixed (pos 0)) ∷ slice_index_or coordinates 1 (fixed (pos 0)) ∷ slice_index_or coordinates 3 (fixed (pos 0)) ∷ []
 
 -- a colour, each component clamped to 0..1
 abbrev pub shown : List Fx → List Fx
@@ -19,11 +18,11 @@ shown color = map in_unit color
 abbrev pub clip_vertex : Attribs → ClipVertex
 clip_vertex vertex = record {
   clip = vertex.pos;
-  plane = zero_fx;
+  plane = fixed (pos 0);
   front = shown vertex.color;
   back = shown vertex.color;
   tex = stq (slice_index_or vertex.tex 0 []) ∷ stq (slice_index_or vertex.tex 1 []) ∷ [];
-  fog = one_fx;
+  fog = fixed one;
 }
 
 -- a clip coordinate lies within -w and w

@@ -4,7 +4,7 @@ ghost use Rattle.std.specs.List.{range_with_len};
 ghost use Rattle.gl_records.specs.Size.{IsSize};
 ghost use Rattle.gl_records.specs.Captured.{Draw};
 ghost use Rattle.gl_records.specs.Valid.{IsValid};
-ghost use Rattle.draw_front.specs.Context.{current_values};
+ghost use Rattle.gl_state.specs.Current.{attribs};
 ghost use Rattle.draw_front.specs.Draws.{draw_error as draw_error_of, opening_rules as opening_rules_of, triangle_of_corners, corners_at, items_of_triangles, is_drawn as is_drawn_in};
 
 use crate::context::Context;
@@ -61,7 +61,7 @@ pub fn next_triangle(
     ensures valid { IfSome result.0 (λ prim. IsValid prim size) }
 {
     let rules = opening_rules(size);
-    let current = context.current_values();
+    let current = context.state.current();
     for k in next..end {
         let corners = corners(context, &current, first + 3 * k);
         if let Some(prim) = triangle(&rules, size, &corners) {
@@ -73,7 +73,7 @@ pub fn next_triangle(
 
 /// The corners of the triangle that begins at vertex k.
 fn corners(context: &Context, current: &Attribs, k: u32) -> [ClipVertex; 3]
-    requires current { current.now ≡ current_values context.now }
+    requires current { current.now ≡ attribs context.now.state.current }
     requires vertices { k + 2 < 2 ^ 32 }
     ensures { result ≡ corners_at context.now k }
 {

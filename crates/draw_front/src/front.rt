@@ -1,15 +1,18 @@
-ghost use Rattle.std.specs.Prelude.{◌≡◌, ◌≢◌, ◌+◌, ◌^◌, ◌<◌, ◌++◌, [], true, map, option_to_list, None, IsErr, IsNone, IfOk, IfSome, OnErr, OnOk};
+ghost use Rattle.std.specs.Prelude.{◌≡◌, ◌+◌, ◌^◌, ◌<◌, ◌++◌, [], true, map, option_to_list, length, ◌≤◌, Some, IsErr, IsNone, IfOk, IfSome, OnErr, OnOk};
 ghost use Rattle.gl_records.specs.Captured.{captured};
 ghost use Rattle.gl_records.specs.Size.{IsSize};
 ghost use Rattle.gl_records.specs.Valid.{IsDrawable};
-ghost use Rattle.draw_front.specs.Collecting.{answer_of, asked_of, counted, opening_front, stepped, with_lines, with_refusal};
+ghost use Rattle.trace_reader.specs.Reading.{index_after as index_after_of};
+ghost use Rattle.draw_front.specs.Collecting.{answer_of, asked_of, opening_front, stepped, with_refusal};
+ghost use Rattle.draw_front.specs.Call.{line_of};
+ghost use Rattle.draw_front.specs.Immediate.{joined};
 
 use crate::context::Context;
 use crate::pending::Pending;
 use crate::step::Step;
 use gl_records::{Bytes, Item, Rec, Size};
 use gl_tokens::GlError;
-use output_format::append_raise;
+use output_format::{append_error, append_raise};
 use std::alloc::{AllocError, Global};
 use std::marker::Model;
 use std::mem;
@@ -32,6 +35,7 @@ pub struct Front {
 impl Model for Front {
     ghost use Rattle.std.specs.Prelude.{◌≤◌};
     ghost use Rattle.gl_records.specs.Size.{IsSize};
+    ghost use Rattle.trace_reader.specs.Reading.{index_after as index_after_of};
     ghost use Rattle.draw_front.specs.Collecting.{Collecting};
     ghost use Rattle.draw_front.specs.Pending.{IsPending, items_left};
 
@@ -60,7 +64,7 @@ impl Front {
         Ok(Front {
             alloc,
             size,
-            context: Context::new(alloc),
+            context: Context::new(alloc, size),
             pending: Pending::Nothing,
             lines: Vec::new(alloc),
             line_count: 0,
@@ -78,9 +82,8 @@ impl Front {
         requires countable { self.old.index + 1 < 2 ^ 32 }
         ensures answer { IfOk result (λ step. step ≡ answer_of rec (asked_of self.old rec).error) }
         ensures asked { OnOk result (self.new ≡ stepped self.old rec) }
-        // a refused command has its line and is counted, and changes nothing else
-        ensures refused { (asked_of self.old rec).error ≢ None
-            → OnOk result (self.new ≡ counted (with_lines self.old (asked_of self.old rec).lines) rec) }
+        ensures refused { (error : GlError) → (asked_of self.old rec).error ≡ Some error
+            → OnOk result (self.new ≡ with_refusal self.old error) }
         ensures memory { OnErr result (self.new ≡ record self.old { out_of_memory = true }) }
         ensures kept { self.old.out_of_memory ≡ true → IsErr result }
     {
@@ -89,19 +92,24 @@ impl Front {
         }
         let step = Step::of(&rec);
         let pending = Pending::of(&self.context, self.size, &rec);
+        let index = index_after(self.index, &rec);
+        let Ok(made) = append_line(self.alloc, &mut self.lines, self.index, &self.context, &rec)
+        else {
+            self.out_of_memory = true;
+            return Err(AllocError);
+        };
         match self.context.run(rec) {
             None => {
                 self.pending = pending;
-                if step != Step::Ended {
-                    self.index += 1;
-                }
+                self.line_count += made;
+                self.index = index;
                 Ok(step)
             }
             Some(error) => self.refuse(error),
         }
     }
 
-    /// The line of a command that makes an error.
+    /// The line of a command that makes an error, which the flag keeps if it had none.
     fn refuse(&mut self, error: GlError) -> Result<Step, AllocError>
         requires { self.old.index + 1 < 2 ^ 32 }
         ensures quiet { IfOk result (λ step. step ≡ Step.Quiet) }
@@ -112,6 +120,7 @@ impl Front {
             self.out_of_memory = true;
             return Err(AllocError);
         }
+        self.context.flag.raise(error);
         self.line_count += 1;
         self.index += 1;
         Ok(Step::Quiet)
@@ -160,5 +169,41 @@ impl Front {
         ensures { result ≡ self.now.index }
     {
         self.index
+    }
+}
+
+/// How many records were run once this one was: End isn't counted.
+fn index_after(index: u32, rec: &Rec) -> u32
+    requires { index + 1 < 2 ^ 32 }
+    ensures value { result ≡ index_after_of index rec.now }
+    ensures from { index ≤ result }
+{
+    match rec {
+        Rec::End => index,
+        _ => index + 1,
+    }
+}
+
+/// Appends the line of a command that makes no error, where it has one, and answers how many lines that is. A command
+/// that makes an error has none here. Where memory is out nothing is appended.
+fn append_line(
+    alloc: Global,
+    lines: &mut Vec<u8>,
+    index: u32,
+    context: &Context,
+    rec: &Rec,
+) -> Result<u32, AllocError>
+    ensures line { OnOk result (lines.new.items ≡ lines.old.items ++ joined (option_to_list (line_of context.now index rec.now))) }
+    ensures count { IfOk result (λ made. made ≡ length (option_to_list (line_of context.now index rec.now))) }
+    ensures few { IfOk result (λ made. made ≤ 1) }
+    ensures memory { OnErr result (lines.new.items ≡ lines.old.items) }
+{
+    match rec {
+        Rec::GetError => {
+            let mut flag = context.flag;
+            append_error(alloc, lines, index, flag.take())?;
+            Ok(1)
+        }
+        _ => Ok(0),
     }
 }

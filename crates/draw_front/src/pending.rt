@@ -38,7 +38,7 @@ impl Pending {
                     Pending::Nothing
                 }
             }
-            Rec::Clear { mask } => match context.clear_item(mask, size) {
+            Rec::Clear { mask } => match context.state.clear_item(mask, size) {
                 Some(clear) => Pending::Clear(clear),
                 None => Pending::Nothing,
             },

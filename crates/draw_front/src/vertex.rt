@@ -2,8 +2,7 @@
 ghost use Rattle.std.specs.Prelude.{◌≡◌};
 ghost use Rattle.draw_front.specs.Vertex.{clip_vertex as clip_vertex_of, is_in_volume as is_in_volume_of, is_within as is_within_of, shown as shown_of, stq as stq_of};
 
-use crate::context::in_unit;
-use fx_arith::Fx;
+use fx_arith::{Fx, in_unit};
 use gl_records::{Attribs, ClipVertex};
 
 /// The vertex in clip coordinates (OpenGL ES 1.1.12, 2.10 to 2.12): the matrices are the identity, and

@@ -18,6 +18,10 @@ hex4 code = hex_digit (code / 4096 % 16) ∷ hex_digit (code / 256 % 16) ∷ hex
 abbrev pub raise_line : ℕ → GlError → List ℕ
 raise_line index error = codes "raise " ++ decimal index ++ codes " 0x" ++ hex4 (code_of error) ++ codes "\n"
 
+-- this record takes the error flag, whose code this is
+abbrev pub error_line : ℕ → ℕ → List ℕ
+error_line index code = codes "error " ++ decimal index ++ codes " 0x" ++ hex4 code ++ codes "\n"
+
 -- the trace was read to its end; so many records stand before End
 abbrev pub end_line : ℕ → List ℕ
 end_line count = codes "end " ++ decimal count ++ codes "\n"

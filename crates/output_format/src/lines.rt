@@ -2,7 +2,7 @@
 ghost use Rattle.std.specs.Prelude.{◌≡◌, ◌≢◌, ◌/◌, ◌%◌, ◌<◌, ◌≤◌, ◌++◌, Err, IfOk, OnOk, OnErr};
 ghost use Rattle.outer_io.specs.Faults.{Rose};
 ghost use Rattle.output_format.specs.Answer.{Puts, Stops, stop_line};
-ghost use Rattle.output_format.specs.Log.{hex_digit as hex_digit_of, hex4 as hex4_of, raise_line as raise_line_of, end_line as end_line_of, refused_line as refused_line_of, cause_name};
+ghost use Rattle.output_format.specs.Log.{hex_digit as hex_digit_of, hex4 as hex4_of, raise_line as raise_line_of, error_line as error_line_of, end_line as end_line_of, refused_line as refused_line_of, cause_name};
 
 use crate::fault::Fault;
 use crate::output::put;
@@ -25,6 +25,21 @@ pub fn append_raise(
     ensures memory { OnErr result (lines.new.items ≡ lines.old.items) }
 {
     let line = raise_line(alloc, index, error)?;
+    lines.extend_from_slice(&line)
+}
+
+/// Appends `error INDEX CODE` to lines that wait: this record takes the error flag, whose code this is. Where memory
+/// is out nothing is appended.
+pub fn append_error(
+    alloc: Global,
+    lines: &mut Vec<u8>,
+    index: u32,
+    code: u32,
+) -> Result<(), AllocError>
+    ensures line { OnOk result (lines.new.items ≡ lines.old.items ++ error_line_of index code) }
+    ensures memory { OnErr result (lines.new.items ≡ lines.old.items) }
+{
+    let line = error_line(alloc, index, code)?;
     lines.extend_from_slice(&line)
 }
 
@@ -68,6 +83,17 @@ fn raise_line(alloc: Global, index: u32, error: GlError) -> Result<Vec<u8>, Allo
     line.extend_from_slice(Buffer::new().format(index).as_bytes())?;
     line.extend_from_slice(b" 0x")?;
     line.extend_from_slice(&hex4(error.code()))?;
+    line.extend_from_slice(b"\n")?;
+    Ok(line)
+}
+
+fn error_line(alloc: Global, index: u32, code: u32) -> Result<Vec<u8>, AllocError>
+    ensures { IfOk result (λ line. line.items ≡ error_line_of index code) }
+{
+    let mut line = Vec::from_slice(alloc, b"error ")?;
+    line.extend_from_slice(Buffer::new().format(index).as_bytes())?;
+    line.extend_from_slice(b" 0x")?;
+    line.extend_from_slice(&hex4(code))?;
     line.extend_from_slice(b"\n")?;
     Ok(line)
 }

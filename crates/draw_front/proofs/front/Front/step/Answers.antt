@@ -1,28 +1,24 @@
-use Rattle.std.proofs.Common.{◌≡◌, ◌∙◌, Some, None, sym, ap}
+use Rattle.std.proofs.Common.{◌≡◌, ◌∙◌, None, sym, ap}
 use Rattle.draw_front.specs.Call.{commanded}
-use Rattle.draw_front.specs.Collecting.{Collecting, with_refusal}
-use Rattle.draw_front.specs.Context.{Context}
+use Rattle.draw_front.specs.Collecting.{Collecting, stepped}
 use Rattle.draw_front.specs.Pending.{items_left}
-use Rattle.draw_front.proofs.Refusals.{commanded-stays, stepped-refused, OnOk-map}
+use Rattle.draw_front.proofs.Stepped.{left-of, stepped-ran}
 use Rattle.draw_front.proofs.front.Front.step.Goals as goal
 
-pub returns-in-Some-clause-asked : goal.returns-in-Some-clause-asked
-returns-in-Some-clause-asked c =
+pub returns-in-None-clause-asked : goal.returns-in-None-clause-asked
+returns-in-None-clause-asked c =
     let inside = c.self.inside in
-    let now = c.args.self.now in
-    let is : (commanded inside.context c.args.rec).1 ≡ Some c.in-Some.error = sym (ap (λ answer. answer.1) c.run.ensures) ∙ c.in-Some.is in
-    let some : (commanded inside.context c.args.rec).1 ≡ None → ⊥ = λ none. cc in
-    let same : c.run.new.self ≡ inside.context = ap (λ answer. answer.0) c.run.ensures ∙ commanded-stays inside.context c.args.rec some in
-    let front : Context → Collecting = λ context. record {
+    let later = c.run.new.self in
+    let run : (later, None) ≡ commanded inside.context c.args.rec = sym (ap (λ error. (later, error)) c.in-None.is) ∙ c.run.ensures.run in
+    let left = ap (items_left inside.size later) c.of-pending.ensures.value ∙ left-of inside.size inside.context later c.args.rec run in
+    let before : Collecting = record {
       size = inside.size;
-      context = context;
-      left = items_left inside.size context inside.pending;
+      context = inside.context;
+      left = items_left inside.size inside.context inside.pending;
       lines = inside.lines.items;
       line_count = inside.line_count;
       index = inside.index;
       out_of_memory = inside.out_of_memory;
     } in
-    let before : front c.run.new.self ≡ now = ap front same ∙ c.self.view_is in
-    let now_is : (commanded now.context c.args.rec).1 ≡ Some c.in-Some.error = rw (← c.self.view_is) is in
-    OnOk-map c.refuse.result (λ line. line ∙ ap (λ (then : Collecting). with_refusal then c.in-Some.error) before ∙ sym (stepped-refused now c.args.rec c.in-Some.error c.requires.taken now_is))
-    c.refuse.ensures.line
+    stepped-ran before c.args.rec later _ _ _ _ run left c.in-Ok.ensures.line c.in-Ok.ensures.count c.index_after-index.ensures.value
+    ∙ ap (λ (now : Collecting). stepped now c.args.rec) c.self.view_is
