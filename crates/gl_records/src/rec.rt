@@ -176,6 +176,13 @@ pub enum Rec {
     DepthMask {
         write: bool,
     },
+    /// The box outside of which nothing is drawn, in pixels (OpenGL ES 1.1.12, 4.1.2).
+    Scissor {
+        x: i32,
+        y: i32,
+        width: i32,
+        height: i32,
+    },
     /// How the incoming colour and the one that is there are mixed (OpenGL ES 1.1.12, 4.1.7).
     BlendFunc {
         source: u32,
@@ -191,13 +198,6 @@ pub enum Rec {
         green: bool,
         blue: bool,
         alpha: bool,
-    },
-    /// The box outside of which nothing is drawn, in pixels (OpenGL ES 1.1.12, 4.1.2).
-    Scissor {
-        x: i32,
-        y: i32,
-        width: i32,
-        height: i32,
     },
     /// The colour of later Clears (OpenGL ES 1.1.12, 4.2.3).
     ClearColorx {

@@ -3,7 +3,7 @@ use Rattle.std.specs.Prelude.{ℕ, Bool, true, false, ◌&&◌, [], ◌∷◌, O
 use Rattle.gl_records.specs.declared.attribs.Attribs.{Attribs}
 use Rattle.gl_records.specs.declared.clear.ClearItem.{ClearItem}
 use Rattle.gl_records.specs.declared.rec.Rec.{Rec}
-use Rattle.gl_records.specs.declared.rec.Rec.TheVariants.{ActiveTexture, Color4x, Color4ub, Normal3x, MultiTexCoord4x, Viewport, DepthRangex, CullFace, FrontFace, ShadeModel, PointSizex, LineWidthx, PolygonOffsetx, Hint, Enable, Disable, Fogx, LightModelx, Materialx, AlphaFuncx, StencilFunc, StencilOp, StencilMask, DepthFunc, DepthMask, BlendFunc, LogicOp, ColorMask, Scissor, ClearColorx, ClearDepthx, ClearStencil, TexEnvx, PixelStorei}
+use Rattle.gl_records.specs.declared.rec.Rec.TheVariants.{ActiveTexture, Color4x, Color4ub, Normal3x, MultiTexCoord4x, Viewport, DepthRangex, CullFace, FrontFace, ShadeModel, PointSizex, LineWidthx, PolygonOffsetx, Hint, Enable, Disable, Fogx, LightModelx, Materialx, AlphaFuncx, StencilFunc, StencilOp, StencilMask, DepthFunc, DepthMask, Scissor, BlendFunc, LogicOp, ColorMask, ClearColorx, ClearDepthx, ClearStencil, TexEnvx, PixelStorei}
 use Rattle.gl_records.specs.declared.setup_rules.SetupRules.{SetupRules}
 use Rattle.gl_records.specs.declared.size.Size.{Size}
 use Rattle.gl_tokens.specs.Cap as cap
@@ -114,10 +114,10 @@ ran s (StencilOp stencil_fail depth_fail depth_pass) = on_tests s (tests.stencil
 ran s (StencilMask mask) = (record s { tests = tests.with_stencil_write s.tests mask }, None)
 ran s (DepthFunc comparison) = on_tests s (tests.depth_func s.tests comparison)
 ran s (DepthMask write) = (record s { tests = tests.with_depth_write s.tests write }, None)
+ran s (Scissor x y width height) = on_tests s (tests.scissor s.tests x y width height)
 ran s (BlendFunc source destination) = on_blending s (blending.blend_func s.blending source destination)
 ran s (LogicOp operation) = on_blending s (blending.logic s.blending operation)
 ran s (ColorMask red green blue alpha) = (record s { blending = blending.with_mask s.blending red green blue alpha }, None)
-ran s (Scissor x y width height) = on_tests s (tests.scissor s.tests x y width height)
 ran s (ClearColorx red green blue alpha) = (record s { clears = clears.with_color s.clears red green blue alpha }, None)
 ran s (ClearDepthx depth) = (record s { clears = clears.with_depth s.clears depth }, None)
 ran s (ClearStencil stencil) = (record s { clears = clears.with_stencil s.clears stencil }, None)

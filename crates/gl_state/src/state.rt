@@ -156,6 +156,12 @@ impl State {
                 self.tests.set_depth_write(*write);
                 None
             }
+            Rec::Scissor {
+                x,
+                y,
+                width,
+                height,
+            } => self.tests.scissor(*x, *y, *width, *height),
             Rec::BlendFunc {
                 source,
                 destination,
@@ -170,12 +176,6 @@ impl State {
                 self.blending.set_mask(*red, *green, *blue, *alpha);
                 None
             }
-            Rec::Scissor {
-                x,
-                y,
-                width,
-                height,
-            } => self.tests.scissor(*x, *y, *width, *height),
             Rec::ClearColorx {
                 red,
                 green,

@@ -19,7 +19,7 @@ use Rattle.trace_reader.specs.Raster.{raster_spelling}
 use Rattle.trace_reader.specs.Shape.{words_of, allows}
 use Rattle.trace_reader.specs.Switches.{switches_spelling}
 use Rattle.trace_reader.specs.Table.{row, with_piece}
-use Rattle.trace_reader.specs.Tests.{tests_spelling}
+use Rattle.trace_reader.specs.FragmentTests.{fragment_tests_spelling}
 use Rattle.trace_reader.specs.Trace.{greatest_payload, greatest_trace}
 
 -- the command of a record: that of its group. Each record is of one group, so none is spelled with opcode 0.
@@ -31,7 +31,7 @@ spelling rec =
     unwrap_or (raster_spelling rec) (
     unwrap_or (switches_spelling rec) (
     unwrap_or (lighting_spelling rec) (
-    unwrap_or (tests_spelling rec) (
+    unwrap_or (fragment_tests_spelling rec) (
     unwrap_or (blending_spelling rec) (
     unwrap_or (clears_spelling rec) (
     unwrap_or (environments_spelling rec) (

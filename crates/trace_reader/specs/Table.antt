@@ -15,7 +15,7 @@ use Rattle.trace_reader.specs.Pixels.{pixels_row}
 use Rattle.trace_reader.specs.Raster.{raster_row}
 use Rattle.trace_reader.specs.Shape.{words_of}
 use Rattle.trace_reader.specs.Switches.{switches_row}
-use Rattle.trace_reader.specs.Tests.{tests_row}
+use Rattle.trace_reader.specs.FragmentTests.{fragment_tests_row}
 
 -- the row of an opcode, a band of opcodes after the other; each band has one group of commands
 abbrev pub row : ℕ → Option Layout
@@ -27,9 +27,9 @@ row opcode =
     if nat_lt opcode 0x48 then raster_row opcode else
     if nat_lt opcode 0x50 then switches_row opcode else
     if nat_lt opcode 0x58 then lighting_row opcode else
-    if nat_lt opcode 0x5E then tests_row opcode else
+    if nat_lt opcode 0x5E then fragment_tests_row opcode else
     if nat_lt opcode 0x61 then blending_row opcode else
-    if nat_lt opcode 0x62 then tests_row opcode else
+    if nat_lt opcode 0x62 then fragment_tests_row opcode else
     if nat_lt opcode 0x7A then clears_row opcode else
     if nat_lt opcode 0x7B then environments_row opcode else pixels_row opcode
 

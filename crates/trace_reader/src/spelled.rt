@@ -4,8 +4,8 @@ ghost use Rattle.trace_reader.specs.Spelling.{Gives, IsWritable, ReadsBack, spel
 ghost use Rattle.trace_reader.specs.Table.{piece_of as record_piece};
 
 use crate::table::{
-    arrays, blending, clears, control, current, environments, lighting, piece_of, pixels, raster,
-    switches, tests,
+    arrays, blending, clears, control, current, environments, fragment_tests, lighting, piece_of,
+    pixels, raster, switches,
 };
 use crate::words::Words;
 use gl_records::Rec;
@@ -105,7 +105,7 @@ pub fn spell(rec: &Rec) -> Spelled<'_>
     if let Some(spelled) = lighting::spelling(rec) {
         return spelled;
     }
-    if let Some(spelled) = tests::spelling(rec) {
+    if let Some(spelled) = fragment_tests::spelling(rec) {
         return spelled;
     }
     if let Some(spelled) = blending::spelling(rec) {

@@ -10,11 +10,11 @@ pub mod clears;
 pub mod control;
 pub mod current;
 pub mod environments;
+pub mod fragment_tests;
 pub mod lighting;
 pub mod pixels;
 pub mod raster;
 pub mod switches;
-pub mod tests;
 
 use crate::shape::Shape;
 use crate::words::Words;
@@ -41,11 +41,11 @@ pub fn row(alloc: Global, opcode: u16, n: &Words) -> Option<(Shape, Rec)>
     } else if opcode < 0x58 {
         lighting::row(opcode, n)
     } else if opcode < 0x5E {
-        tests::row(opcode, n)
+        fragment_tests::row(opcode, n)
     } else if opcode < 0x61 {
         blending::row(opcode, n)
     } else if opcode < 0x62 {
-        tests::row(opcode, n)
+        fragment_tests::row(opcode, n)
     } else if opcode < 0x7A {
         clears::row(opcode, n)
     } else if opcode < 0x7B {

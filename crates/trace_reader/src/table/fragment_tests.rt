@@ -1,6 +1,6 @@
 //! Commands of the tests that a fragment has to pass.
 ghost use Rattle.std.specs.Prelude.{◌≡◌, ◌≤◌, IfSome};
-ghost use Rattle.trace_reader.specs.Tests.{tests_row, tests_spelling};
+ghost use Rattle.trace_reader.specs.FragmentTests.{fragment_tests_row, fragment_tests_spelling};
 ghost use Rattle.trace_reader.specs.Shape.{words_of};
 ghost use Rattle.trace_reader.specs.Spelling.{ReadsBack};
 ghost use Rattle.trace_reader.specs.Command.{with_words};
@@ -12,7 +12,7 @@ use gl_records::Rec;
 
 /// The row of an opcode, as `row` of the whole table answers it.
 pub fn row(opcode: u16, n: &Words) -> Option<(Shape, Rec)>
-    ensures row { result ≡ with_words n.now (tests_row opcode) }
+    ensures row { result ≡ with_words n.now (fragment_tests_row opcode) }
     ensures short { IfSome result (λ found. words_of found.0 ≤ 16) }
 {
     match opcode {
@@ -57,7 +57,7 @@ pub fn row(opcode: u16, n: &Words) -> Option<(Shape, Rec)>
 
 /// The record as these commands are written, where it is one of them.
 pub fn spelling(rec: &Rec) -> Option<Spelled<'_>>
-    ensures spelling { result ≡ tests_spelling rec.now }
+    ensures spelling { result ≡ fragment_tests_spelling rec.now }
     ensures back { IfSome result (ReadsBack rec.now) }
 {
     match rec {
