@@ -1,12 +1,13 @@
 -- A command that makes an error changes nothing but the flag, the lines and the count of records.
-use Rattle.std.proofs.Common.{◌≡◌, ◌∙◌, ◌+◌, ℕ, Bool, false, cond, List, [], ◌∷◌, Option, Some, None, Result, Ok, Err, OnOk, refl, sym, ap}
+use Rattle.std.proofs.Common.{◌≡◌, ◌∙◌, ◌+◌, ℕ, ℤ, Bool, false, cond, List, [], ◌∷◌, Option, Some, None, Result, Ok, Err, OnOk, refl, sym, ap}
 use Rattle.gl_records.specs.declared.rec.Rec.{Rec}
-use Rattle.gl_records.specs.declared.rec.Rec.TheVariants.{End, GetError}
+use Rattle.gl_records.specs.declared.rec.Rec.TheVariants.{End, GetError, Get, IsEnabled}
 use Rattle.gl_records.specs.Captured.{Captured}
+use Rattle.gl_query.specs.Answer.{answer_of}
 use Rattle.gl_tokens.specs.declared.gl_error.GlError.{GlError}
 use Rattle.output_format.specs.Log.{raise_line}
 use Rattle.trace_reader.specs.Trace.{is_end}
-use Rattle.draw_front.specs.Call.{answered, commanded, items_of, line_of, with_error}
+use Rattle.draw_front.specs.Call.{answer_error, answer_line, answered, commanded, items_of, line_of, with_error}
 use Rattle.draw_front.specs.Collecting.{Collecting, after_call, stepped, with_lines, with_refusal}
 use Rattle.draw_front.specs.Context.{Context}
 
@@ -16,8 +17,14 @@ refused-plain context End error is = absurd cc
 refused-plain context _ error is = refl
 
 -- neither does a command that has a line
+unanswered : (index : ℕ) (answer : Result (List ℤ) GlError) (error : GlError) → answer_error answer ≡ Some error → answer_line index answer ≡ None
+unanswered index (Ok values) error is = absurd cc
+unanswered index (Err found) error is = refl
+
 pub refused-line : (context : Context) (index : ℕ) (rec : Rec) (error : GlError) → (commanded context rec).1 ≡ Some error → line_of context index rec ≡ None
 refused-line context index GetError error is = absurd cc
+refused-line context index (Get query) error is = unanswered index (answer_of context.state (Get query)) error is
+refused-line context index (IsEnabled capability) error is = unanswered index (answer_of context.state (IsEnabled capability)) error is
 refused-line context index _ error is = refl
 
 -- a call with an error, whose context is the one before it

@@ -1,11 +1,12 @@
 -- One command: the context after it, its error, what it draws, the chunk and the lines that it makes.
-use Rattle.std.specs.Prelude.{ℕ, List, [], ◌∷◌, Option, Some, None, map, option_to_list}
+use Rattle.std.specs.Prelude.{ℕ, ℤ, List, [], ◌∷◌, Option, Some, None, Result, Ok, Err, map, option_to_list}
 use Rattle.gl_records.specs.declared.rec.Rec.{Rec}
-use Rattle.gl_records.specs.declared.rec.Rec.TheVariants.{Swap, GetError, ClientBytes, VertexPointer, EnableClientState, DisableClientState, DrawArrays, Clear}
+use Rattle.gl_records.specs.declared.rec.Rec.TheVariants.{Swap, GetError, Get, IsEnabled, ClientBytes, VertexPointer, EnableClientState, DisableClientState, DrawArrays, Clear}
 use Rattle.gl_records.specs.declared.size.Size.{Size}
 use Rattle.gl_records.specs.Captured.{Captured}
 use Rattle.gl_records.specs.Captured as captured
 use Rattle.gl_records.specs.Surface.{Surface}
+use Rattle.gl_query.specs.Answer.{answer_of}
 use Rattle.gl_state.specs.declared.state.State.{State}
 use Rattle.gl_state.specs.Clears.{clear_error}
 use Rattle.gl_state.specs.ErrorFlag.{raised, flag_code}
@@ -13,7 +14,7 @@ use Rattle.gl_state.specs.State.{ran, clear_item}
 use Rattle.gl_tokens.specs.Commands.{within}
 use Rattle.gl_tokens.specs.declared.gl_error.GlError.{GlError}
 use Rattle.output_format.specs.Frames.{frame}
-use Rattle.output_format.specs.Log.{raise_line, error_line}
+use Rattle.output_format.specs.Log.{raise_line, error_line, get_line}
 use Rattle.vertex_fetch.specs.declared.arrays.Arrays.{Arrays}
 use Rattle.vertex_fetch.specs.Arrays.{with_command}
 use Rattle.vertex_fetch.specs.Regions.{with_region}
@@ -40,9 +41,20 @@ on_arrays context = within (λ arrays. record context { arrays = arrays })
 abbrev pub on_regions : Context → List (List ℕ) × Option GlError → Context × Option GlError
 on_regions context = within (λ regions. record context { regions = regions })
 
+-- a query that can't be answered makes an error; one that can has a line
+abbrev pub answer_error : Result (List ℤ) GlError → Option GlError
+answer_error (Ok values) = None
+answer_error (Err error) = Some error
+
+abbrev pub answer_line : ℕ → Result (List ℤ) GlError → Option (List ℕ)
+answer_line index (Ok values) = Some (get_line index values)
+answer_line index (Err error) = None
+
 -- the context after a command, and the command's error; the flag doesn't have that error yet
 abbrev pub commanded : Context → Rec → Context × Option GlError
 commanded context GetError = (record context { flag = None }, None)
+commanded context (Get query) = (context, answer_error (answer_of context.state (Get query)))
+commanded context (IsEnabled capability) = (context, answer_error (answer_of context.state (IsEnabled capability)))
 commanded context (ClientBytes region piece) = on_regions context (with_region context.regions region piece)
 commanded context (VertexPointer size kind stride region offset) =
     on_arrays context (with_command context.arrays (VertexPointer size kind stride region offset))
@@ -58,9 +70,11 @@ items_of size context (DrawArrays mode first count) = draw_items size context mo
 items_of size context (Clear mask) = map captured.Clear (option_to_list (clear_item context.state mask size))
 items_of size context _ = []
 
--- the line of a command that makes no error: GetError answers the flag
+-- the line of a command that makes no error: GetError answers the flag, and a query its numbers
 abbrev pub line_of : Context → ℕ → Rec → Option (List ℕ)
 line_of context index GetError = Some (error_line index (flag_code context.flag))
+line_of context index (Get query) = answer_line index (answer_of context.state (Get query))
+line_of context index (IsEnabled capability) = answer_line index (answer_of context.state (IsEnabled capability))
 line_of context index _ = None
 
 -- the context with an error in its flag

@@ -1,9 +1,11 @@
 ghost use Rattle.std.specs.Prelude.{◌≡◌, OnSome};
 ghost use Rattle.gl_records.specs.Size.{IsSize};
-ghost use Rattle.draw_front.specs.Call.{commanded};
+ghost use Rattle.gl_query.specs.Answer.{answer_of};
+ghost use Rattle.draw_front.specs.Call.{answer_error, commanded};
 ghost use Rattle.draw_front.specs.Context.{opening_context};
 
 use crate::draws::draw_error;
+use gl_query::answer;
 use gl_records::{Rec, Size};
 use gl_state::{ErrorFlag, State, clear_error};
 use gl_tokens::GlError;
@@ -60,6 +62,7 @@ impl Context {
                 self.flag.take();
                 None
             }
+            Rec::Get { .. } | Rec::IsEnabled { .. } => query_error(&self.state, &rec),
             Rec::ClientBytes { region, piece } => self.regions.set(region, piece),
             Rec::VertexPointer { .. }
             | Rec::EnableClientState { .. }
@@ -68,5 +71,15 @@ impl Context {
             Rec::Clear { mask } => clear_error(mask),
             rec => self.state.apply(&rec),
         }
+    }
+}
+
+/// The error of Get or IsEnabled, or none.
+fn query_error(state: &State, rec: &Rec) -> Option<GlError>
+    ensures { result ≡ answer_error (answer_of state.now rec.now) }
+{
+    match answer(state, rec) {
+        Ok(_) => None,
+        Err(error) => Some(error),
     }
 }

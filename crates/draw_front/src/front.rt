@@ -10,9 +10,10 @@ ghost use Rattle.draw_front.specs.Immediate.{joined};
 use crate::context::Context;
 use crate::pending::Pending;
 use crate::step::Step;
+use gl_query::answer;
 use gl_records::{Bytes, Item, Rec, Size};
 use gl_tokens::GlError;
-use output_format::{append_error, append_raise};
+use output_format::{append_error, append_get, append_raise};
 use std::alloc::{AllocError, Global};
 use std::marker::Model;
 use std::mem;
@@ -95,8 +96,7 @@ impl Front {
         let index = index_after(self.index, &rec);
         let Ok(made) = append_line(self.alloc, &mut self.lines, self.index, &self.context, &rec)
         else {
-            self.out_of_memory = true;
-            return Err(AllocError);
+            return Err(self.run_out());
         };
         match self.context.run(rec) {
             None => {
@@ -117,13 +117,20 @@ impl Front {
         ensures memory { OnErr result (self.new ≡ record self.old { out_of_memory = true }) }
     {
         if append_raise(self.alloc, &mut self.lines, self.index, error).is_err() {
-            self.out_of_memory = true;
-            return Err(AllocError);
+            return Err(self.run_out());
         }
         self.context.flag.raise(error);
         self.line_count += 1;
         self.index += 1;
         Ok(Step::Quiet)
+    }
+
+    /// Memory is out, and stays so.
+    fn run_out(&mut self) -> AllocError
+        ensures { self.new ≡ record self.old { out_of_memory = true } }
+    {
+        self.out_of_memory = true;
+        AllocError
     }
 
     /// Takes the next item of the record, None exactly at their end. Each can be drawn on a surface of this size.
@@ -204,6 +211,13 @@ fn append_line(
             append_error(alloc, lines, index, flag.take())?;
             Ok(1)
         }
+        Rec::Get { .. } | Rec::IsEnabled { .. } => match answer(&context.state, rec) {
+            Ok(values) => {
+                append_get(alloc, lines, index, values.as_slice())?;
+                Ok(1)
+            }
+            Err(_) => Ok(0),
+        },
         _ => Ok(0),
     }
 }

@@ -15,6 +15,14 @@ pub enum Rec {
     Flush,
     /// The error flag is answered and cleared (OpenGL ES 1.1.12, 2.5).
     GetError,
+    /// A value of the state is answered (OpenGL ES 1.1.12, 6.1).
+    Get {
+        query: u32,
+    },
+    /// Whether a capability or an array is on is answered (OpenGL ES 1.1.12, 6.1.1).
+    IsEnabled {
+        capability: u32,
+    },
     /// A client region holds these bytes from now on, and no others. Arrays are read from regions.
     ClientBytes {
         region: u32,

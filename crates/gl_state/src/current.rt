@@ -1,5 +1,5 @@
 ghost use Rattle.std.specs.Prelude.{◌≡◌, OnSome};
-ghost use Rattle.gl_state.specs.Current.{opening_values, active_texture as active_texture_of, with_color, with_color_bytes, with_normal, with_coordinates, multi_tex_coord as multi_tex_coord_of, attribs as attribs_of};
+ghost use Rattle.gl_state.specs.Current.{opening_values, active_texture as active_texture_of, with_color, with_color_bytes, with_normal, coordinates as coordinates_of, with_coordinates, multi_tex_coord as multi_tex_coord_of, attribs as attribs_of};
 
 use fx_arith::{Fx, fixed_from_byte};
 use gl_records::Attribs;
@@ -95,6 +95,16 @@ impl CurrentValues {
                 None
             }
             None => Some(GlError::InvalidEnum),
+        }
+    }
+
+    /// The texture coordinates of a unit, s t r q.
+    pub fn coordinates(&self, unit: TextureUnit) -> &[Fx; 4]
+        ensures { result.now ≡ coordinates_of self.now unit }
+    {
+        match unit {
+            TextureUnit::Texture0 => &self.texture0,
+            TextureUnit::Texture1 => &self.texture1,
         }
     }
 

@@ -76,11 +76,12 @@ impl FragmentTests {
         ensures run { (self.new, result) ≡ stencil_func_of self.old code reference mask }
         ensures unchanged { OnSome result (self.new ≡ self.old) }
     {
+        let reference = in_byte(reference);
         let Some(comparison) = Compare::from_code(code) else {
             return Some(GlError::InvalidEnum);
         };
         self.stencil_comparison = comparison;
-        self.stencil_reference = in_byte(reference);
+        self.stencil_reference = reference;
         self.stencil_mask = low_byte(mask);
         None
     }

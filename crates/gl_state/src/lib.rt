@@ -24,6 +24,8 @@ mod pixels;
 mod raster;
 mod state;
 mod switches;
+#[cfg(test)]
+mod tests;
 mod unit_fx;
 mod values;
 mod viewport;

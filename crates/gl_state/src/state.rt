@@ -206,6 +206,8 @@ impl State {
             | Rec::Swap
             | Rec::Flush
             | Rec::GetError
+            | Rec::Get { .. }
+            | Rec::IsEnabled { .. }
             | Rec::ClientBytes { .. }
             | Rec::VertexPointer { .. }
             | Rec::EnableClientState { .. }

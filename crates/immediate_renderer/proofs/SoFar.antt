@@ -16,9 +16,10 @@ use Rattle.trace_reader.specs.Trace.{Tail, Ending, Ended, Malformed, with_record
 use Rattle.trace_reader.proofs.Outcomes.{is_end-end}
 use Rattle.draw_front.specs.Call.{Called}
 use Rattle.draw_front.specs.Immediate.{Output, joined, immediate, output_of_tail}
-use Rattle.output_format.specs.Answer.{Puts, Stops, stop_line}
+use Rattle.output_format.specs.Answer.{Plays, Puts, Stops, stop_line}
 use Rattle.output_format.specs.declared.fault.Fault.{Fault}
 use Rattle.output_format.specs.declared.status.Status.{Status}
+use Rattle.output_format.specs.declared.status.Status.TheVariants.{Done}
 use Rattle.output_format.specs.Log.{end_line, refused_line, last_line}
 use Rattle.draw_front.specs.Playing.{Playing, call, ran}
 use Rattle.output_format.proofs.Growth.{front_after, front_goes_on}
@@ -151,6 +152,29 @@ pub end_whole : (reader now next : Progress) (player then : Playing) (known left
 end_whole reader now next player then None left after f g l m n played reads line = tt
 end_whole reader now next player then (Some bytes) None after f g l m n played reads line = absurd played.so_far
 end_whole reader now next player then (Some bytes) (Some rest) after f g l m n played reads line = last_whole then (tail_of now rest) _ Ended f g l m n played.so_far reads.0 line
+
+-- End makes no frame
+frames_whole : (then : Playing) (tail : Tail) (all : Output) (f g l m : Option (List ℕ)) → IsSoFar all (output_of_tail then tail) f g l m → tail ≡ (let last : Tail = record { records = []; ending = Ended } in last) → Appends f g all.frames
+frames_whole then tail all f g l m so is =
+    let none : (output_of_tail then tail).frames ≡ [] = ap (λ (t : Tail). (output_of_tail then t).frames) is in
+    subst (Appends f g) (sym (so.all_frames ∙ ap (λ (k : List ℕ). so.frames ++ k) none ∙ append-nil so.frames)) so.frames_put
+
+pub end_frames : (reader now next : Progress) (player then : Playing) (known left after f g l m : Option (List ℕ)) → IsPlayed reader now player then known left f g l m
+    → IfSome left (λ rest. Reads now rest (Ok End) next after) → IfSome known (λ bytes. Appends f g (output_of_tail player (tail_of reader bytes)).frames)
+end_frames reader now next player then None left after f g l m played reads = tt
+end_frames reader now next player then (Some bytes) None after f g l m played reads = absurd played.so_far
+end_frames reader now next player then (Some bytes) (Some rest) after f g l m played reads = frames_whole then (tail_of now rest) _ f g l m played.so_far reads.0
+
+-- the trace ends there, and nothing of it is left
+plays_end : (ending : Ending) (after : Option (List ℕ)) → ending ≡ Ended → after ≡ Some [] → Plays ending (Ok Done) after
+plays_end ending after is none = rw is (refl, none)
+
+pub end_plays : (reader now next : Progress) (player then : Playing) (known left after f g l m : Option (List ℕ)) → IsPlayed reader now player then known left f g l m
+    → IfSome left (λ rest. Reads now rest (Ok End) next after) → IfSome known (λ bytes. Plays (tail_of reader bytes).ending (Ok Done) after)
+end_plays reader now next player then None left after f g l m played reads = tt
+end_plays reader now next player then (Some bytes) None after f g l m played reads = absurd played.so_far
+end_plays reader now next player then (Some bytes) (Some rest) after f g l m played reads =
+    plays_end _ after (played.same_ending ∙ ap (λ (t : Tail). t.ending) reads.0) reads.1
 
 pub refused_whole : (reader now next : Progress) (player then : Playing) (known left after f g l m n : Option (List ℕ)) (index offset : ℕ) (cause : Cause) → IsPlayed reader now player then known left f g l m
     → IfSome left (λ rest. Reads now rest (Err (read.Malformed index offset cause)) next after) → Appends m n (refused_line index offset cause)

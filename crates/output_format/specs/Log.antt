@@ -1,5 +1,7 @@
 -- The lines of the log.
-use Rattle.std.specs.Prelude.{ℕ, ◌+◌, ◌/◌, ◌%◌, List, [], ◌∷◌, ◌++◌, nat_lt, if◌then◌else◌, codes, decimal}
+use Rattle.std.specs.Prelude.{ℕ, ℤ, ◌+◌, ◌/◌, ◌%◌, List, [], ◌∷◌, ◌++◌, nat_lt, if◌then◌else◌, codes, decimal}
+use Rattle.std.specs.Fmt.{signed_decimal}
+use Rattle.std.specs.List.{flat_map}
 use Rattle.gl_tokens.specs.declared.gl_error.GlError.{GlError}
 use Rattle.gl_tokens.specs.GlError.{code_of}
 use Rattle.trace_reader.specs.declared.cause.Cause.{Cause}
@@ -21,6 +23,14 @@ raise_line index error = codes "raise " ++ decimal index ++ codes " 0x" ++ hex4 
 -- this record takes the error flag, whose code this is
 abbrev pub error_line : ℕ → ℕ → List ℕ
 error_line index code = codes "error " ++ decimal index ++ codes " 0x" ++ hex4 code ++ codes "\n"
+
+-- numbers, a space before each
+abbrev pub numbers : List ℤ → List ℕ
+numbers values = flat_map (λ value. codes " " ++ signed_decimal value) values
+
+-- this record's query answers these numbers
+abbrev pub get_line : ℕ → List ℤ → List ℕ
+get_line index values = codes "get " ++ decimal index ++ numbers values ++ codes "\n"
 
 -- the trace was read to its end; so many records stand before End
 abbrev pub end_line : ℕ → List ℕ

@@ -2,7 +2,7 @@
 ghost use Rattle.std.specs.Prelude.{◌≡◌, ◌≢◌, ◌/◌, ◌%◌, ◌<◌, ◌≤◌, ◌++◌, Err, IfOk, OnOk, OnErr};
 ghost use Rattle.outer_io.specs.Faults.{Rose};
 ghost use Rattle.output_format.specs.Answer.{Puts, Stops, stop_line};
-ghost use Rattle.output_format.specs.Log.{hex_digit as hex_digit_of, hex4 as hex4_of, raise_line as raise_line_of, error_line as error_line_of, end_line as end_line_of, refused_line as refused_line_of, cause_name};
+ghost use Rattle.output_format.specs.Log.{hex_digit as hex_digit_of, hex4 as hex4_of, raise_line as raise_line_of, error_line as error_line_of, get_line as get_line_of, numbers as numbers_of, end_line as end_line_of, refused_line as refused_line_of, cause_name};
 
 use crate::fault::Fault;
 use crate::output::put;
@@ -40,6 +40,21 @@ pub fn append_error(
     ensures memory { OnErr result (lines.new.items ≡ lines.old.items) }
 {
     let line = error_line(alloc, index, code)?;
+    lines.extend_from_slice(&line)
+}
+
+/// Appends `get INDEX NUMBER ..` to lines that wait: this record's query answers these numbers. Where memory is out
+/// nothing is appended.
+pub fn append_get(
+    alloc: Global,
+    lines: &mut Vec<u8>,
+    index: u32,
+    values: &[i64],
+) -> Result<(), AllocError>
+    ensures line { OnOk result (lines.new.items ≡ lines.old.items ++ get_line_of index values.now) }
+    ensures memory { OnErr result (lines.new.items ≡ lines.old.items) }
+{
+    let line = get_line(alloc, index, values)?;
     lines.extend_from_slice(&line)
 }
 
@@ -96,6 +111,27 @@ fn error_line(alloc: Global, index: u32, code: u32) -> Result<Vec<u8>, AllocErro
     line.extend_from_slice(&hex4(code))?;
     line.extend_from_slice(b"\n")?;
     Ok(line)
+}
+
+fn get_line(alloc: Global, index: u32, values: &[i64]) -> Result<Vec<u8>, AllocError>
+    ensures { IfOk result (λ line. line.items ≡ get_line_of index values.now) }
+{
+    let mut line = Vec::from_slice(alloc, b"get ")?;
+    line.extend_from_slice(Buffer::new().format(index).as_bytes())?;
+    append_numbers(&mut line, values)?;
+    line.extend_from_slice(b"\n")?;
+    Ok(line)
+}
+
+/// Appends numbers, a space before each.
+fn append_numbers(line: &mut Vec<u8>, values: &[i64]) -> Result<(), AllocError>
+    ensures { OnOk result (line.new.items ≡ line.old.items ++ numbers_of values.now) }
+{
+    'numbers: for value in values {
+        line.extend_from_slice(b" ")?;
+        line.extend_from_slice(Buffer::new().format(*value).as_bytes())?;
+    }
+    Ok(())
 }
 
 fn end_line(alloc: Global, count: u32) -> Result<Vec<u8>, AllocError>

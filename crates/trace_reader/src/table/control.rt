@@ -1,4 +1,4 @@
-//! Commands of the whole trace: its end, presenting the surface, and the error flag.
+//! Commands of the whole trace: its end, presenting the surface, the error flag, and queries.
 ghost use Rattle.std.specs.Prelude.{◌≡◌, ◌≤◌, IfSome};
 ghost use Rattle.trace_reader.specs.Control.{control_row, control_spelling};
 ghost use Rattle.trace_reader.specs.Shape.{words_of};
@@ -11,8 +11,8 @@ use crate::words::Words;
 use gl_records::Rec;
 
 /// The row of an opcode, as `row` of the whole table answers it.
-pub fn row(opcode: u16, _n: &Words) -> Option<(Shape, Rec)>
-    ensures row { result ≡ with_words _n.now (control_row opcode) }
+pub fn row(opcode: u16, n: &Words) -> Option<(Shape, Rec)>
+    ensures row { result ≡ with_words n.now (control_row opcode) }
     ensures short { IfSome result (λ found. words_of found.0 ≤ 16) }
 {
     match opcode {
@@ -20,6 +20,8 @@ pub fn row(opcode: u16, _n: &Words) -> Option<(Shape, Rec)>
         0x02 => Some((Shape::Exactly(0), Rec::Swap)),
         0x04 => Some((Shape::Exactly(0), Rec::Flush)),
         0x05 => Some((Shape::Exactly(0), Rec::GetError)),
+        0x06 => Some((Shape::Exactly(1), Rec::Get { query: n[0] })),
+        0x07 => Some((Shape::Exactly(1), Rec::IsEnabled { capability: n[0] })),
         _ => None,
     }
 }
@@ -34,6 +36,8 @@ pub fn spelling(rec: &Rec) -> Option<Spelled<'_>>
         Rec::Swap => Some(Spelled::new(rec, 0x02, &[])),
         Rec::Flush => Some(Spelled::new(rec, 0x04, &[])),
         Rec::GetError => Some(Spelled::new(rec, 0x05, &[])),
+        Rec::Get { query } => Some(Spelled::new(rec, 0x06, &[*query])),
+        Rec::IsEnabled { capability } => Some(Spelled::new(rec, 0x07, &[*capability])),
         _ => None,
     }
 }

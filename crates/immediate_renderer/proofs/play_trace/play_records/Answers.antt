@@ -4,7 +4,7 @@ use Rattle.trace_reader.specs.Trace.{is_end}
 use Rattle.trace_reader.proofs.Outcomes.{is_end-end}
 use Rattle.draw_front.specs.Playing.{Playing}
 use Rattle.immediate_renderer.specs.Settled.{is_ended}
-use Rattle.immediate_renderer.proofs.SoFar.{nothing_played, played_more, played_front, played_to_end, record_front, end_front, end_whole, stop_log}
+use Rattle.immediate_renderer.proofs.SoFar.{nothing_played, played_more, played_front, played_to_end, record_front, end_front, end_whole, end_frames, end_plays, stop_log}
 use Rattle.immediate_renderer.proofs.Steps.{is_ended-other, counted-end, after_record-plain}
 use Rattle.immediate_renderer.proofs.play_trace.play_records.Goals as goal
 
@@ -58,6 +58,22 @@ returns-in_err-put_end-clause-log g c =
     let count = c.index.ensures ∙ counted-end _ _ c.in-Ok.rec run.ran last in
     let line = rw count at c.in_err-put_end.ensures.line in
     rw p.1 (end_front _ _ c.next.new.self _ _ _ _ _ _ _ _ _ _ played trace line)
+
+pub returns-in-Ended-clause-frames : goal.returns-in-Ended-clause-frames
+returns-in-Ended-clause-frames g c =
+    let run = c.in_ok-run.ensures in
+    let last : is_end c.in-Ok.rec ≡ true = sym run.ended ∙ ap is_ended c.in-Ended.is in
+    let played = played_to_end _ _ _ _ _ _ _ _ _ _ _ _ c.in-Ok.rec c.records.invariant.played last run.chunk run.lines in
+    let trace = rw (is_end-end c.in-Ok.rec last) at (c.in-Ok.ensures.trace c.records.invariant.reading) in
+    end_frames _ _ c.next.new.self _ _ _ _ _ _ _ _ _ played trace
+
+pub returns-in-Ended-clause-ending : goal.returns-in-Ended-clause-ending
+returns-in-Ended-clause-ending g c =
+    let run = c.in_ok-run.ensures in
+    let last : is_end c.in-Ok.rec ≡ true = sym run.ended ∙ ap is_ended c.in-Ended.is in
+    let played = played_to_end _ _ _ _ _ _ _ _ _ _ _ _ c.in-Ok.rec c.records.invariant.played last run.chunk run.lines in
+    let trace = rw (is_end-end c.in-Ok.rec last) at (c.in-Ok.ensures.trace c.records.invariant.reading) in
+    end_plays _ _ c.next.new.self _ _ _ _ _ _ _ _ _ played trace
 
 pub returns-in-Ended-clause-log : goal.returns-in-Ended-clause-log
 returns-in-Ended-clause-log g c =
