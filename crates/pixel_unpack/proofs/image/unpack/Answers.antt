@@ -1,0 +1,19 @@
+use Rattle.std.proofs.Common.{◌≡◌, ◌*◌, ℕ, List, ap, ◌∙◌, arith}
+use Rattle.std.specs.List.{flat_map, range_with_len}
+use Rattle.pixel_unpack.specs.Image.{texel_row, row_start, image}
+use Rattle.pixel_unpack.proofs.Ranges.{rows_more}
+use Rattle.pixel_unpack.proofs.image.unpack.Goals as goal
+
+pub loop-y-preserved : goal.loop-y-preserved
+loop-y-preserved c =
+    let row = λ (start : ℕ). texel_row c.args.format c.args.kind c.args.w c.args.piece.now start in
+    let f = λ (y : ℕ). row (row_start c.args.format c.args.kind c.args.align c.args.w y) in
+    let is = ap (λ (stride : ℕ). row (c.loop-y.y * stride)) c.row_stride-stride.ensures.value in
+    c.in_ok-push_texels.ensures ∙ rows_more f _ _ c.loop-y.y c.loop-y.invariant is
+
+pub returns : goal.returns
+unfolding image
+returns c =
+    let f = λ (y : ℕ). texel_row c.args.format c.args.kind c.args.w c.args.piece.now (row_start c.args.format c.args.kind c.args.align c.args.w y) in
+    let last : c.loop-y.y ≡ c.args.h = omega arith in
+    c.new.ensures ∙ c.loop-y.invariant ∙ ap (λ (n : ℕ). flat_map f (range_with_len 0 n)) last

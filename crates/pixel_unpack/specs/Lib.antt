@@ -1,0 +1,4 @@
+pub mod Component
+pub mod Image
+pub mod Palette
+pub mod Texel
