@@ -1,14 +1,12 @@
 -- Palettes, the indices into them, and the levels from one to the next.
-use Rattle.std.proofs.Common.{if◌then◌else◌, ◌≡◌, ◌<◌, ◌≤◌, ◌+◌, ◌*◌, ◌/◌, ◌%◌, ◌^◌, ◌==◌, ℕ, true, false, List, [], ◌∷◌, ◌++◌, map, get_or, refl, sym, add_assoc, ap, ◌∙◌, arith}
+use Rattle.std.proofs.Common.{if◌then◌else◌, ◌≡◌, ◌<◌, ◌≤◌, ◌+◌, ◌*◌, ◌/◌, ◌%◌, ◌^◌, ◌==◌, ℕ, true, false, List, [], ◌∷◌, ◌++◌, length, map, get_or, All, subst, refl, sym, add_assoc, ap, ◌∙◌, arith}
 use Rattle.std.specs.List.{range_with_len}
-use Rattle.std.proofs.lemmas.List.FromFn.{get_or-map-range_with_len, map-range_with_len_more}
+use Rattle.std.proofs.lemmas.List.FromFn.{length-map-range_with_len, get_or-map-range_with_len, map-range_with_len_more}
 use Rattle.std.proofs.Math.Nat.{div-eq_of_lt}
 use Rattle.std.proofs.Math.Pow.{pow_mono}
-use Rattle.gl_tokens.specs.declared.base_format.BaseFormat.{BaseFormat}
-use Rattle.gl_tokens.specs.declared.texel_type.TexelType.{TexelType}
 use Rattle.gl_tokens.specs.declared.palette_format.PaletteFormat.{PaletteFormat}
 use Rattle.gl_records.specs.declared.level.Level.{Level}
-use Rattle.pixel_unpack.specs.Texel.{texel_at, texel_bytes}
+use Rattle.pixel_unpack.specs.Texel.{texel_at}
 use Rattle.pixel_unpack.specs.Image.{texel_row}
 use Rattle.pixel_unpack.specs.Palette.{index_bits, entry_format, entry_kind, entry_bytes, entry, entries, entries_bytes, index_at, level_texels, level_side, level_bytes, level, level_at, palette_size, palette_levels}
 use Rattle.pixel_unpack.proofs.Ranges.{maps_same, sums_more}
@@ -87,3 +85,18 @@ levels_push format w h i w_i h_i start piece all made so_far wide high behind is
     ∙ ap (λ (y : ℕ). level_at format (level_side w i) y piece start) high
     ∙ ap (λ (z : ℕ). level_at format (level_side w i) (level_side h i) piece z) behind)
     ∙ sym (levels_more format w h i piece)
+
+-- so many levels, each with as many texels as its sides say
+pub length-levels : (format : PaletteFormat) (w h levels : ℕ) (piece : List ℕ) → length (palette_levels format w h levels piece) ≡ levels
+unfolding palette_levels
+length-levels format w h levels piece = length-map-range_with_len (λ i. level format w h piece i) 0 levels
+
+pub filled-levels : (format : PaletteFormat) (w h levels : ℕ) (piece : List ℕ) → All (λ level. length level.texels ≡ level.w * level.h) (palette_levels format w h levels piece)
+unfolding palette_levels
+filled-levels format w h levels piece = λ k d within.
+    let of = λ (i : ℕ). level format w h piece i in
+    let inside : k < levels = omega (arith, length-map-range_with_len of 0 levels) in
+    let place : 0 + k ≡ k = omega arith in
+    let P : Level → Type 0 = λ made. length made.texels ≡ made.w * made.h in
+    let texels = length-map-range_with_len (λ j. entry format piece (index_at (index_bits format) piece (palette_size format w h k) j)) 0 (level_side w k * level_side h k) in
+    subst P (sym (get_or-map-range_with_len of 0 levels k k d inside place)) texels

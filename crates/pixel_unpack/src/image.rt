@@ -1,7 +1,7 @@
 //! Images without a palette.
-ghost use Rattle.std.specs.Prelude.{◌≡◌, ◌+◌, ◌*◌, ◌<◌, ◌^◌, ◌++◌, IsTrue, IfOk, OnOk};
-ghost use Rattle.pixel_unpack.specs.Image.{is_alignment, aligned, texel_row, image};
-ghost use Rattle.pixel_unpack.specs.Texel.{is_pair, texel_bytes};
+ghost use Rattle.std.specs.Prelude.{◌≡◌, ◌+◌, ◌*◌, ◌<◌, ◌^◌, ◌++◌, ℕ, length, slice_index, IsTrue, IfOk, OnOk};
+ghost use Rattle.pixel_unpack.specs.Image.{is_alignment, aligned, row_start, texel_row, image};
+ghost use Rattle.pixel_unpack.specs.Texel.{is_pair, texel_bytes, texel_at};
 
 use crate::layout::{
     Alphas, LuminanceAlphas, Luminances, Packed565, Packed4444, Packed5551, Rgbas, Rgbs, push_row,
@@ -77,7 +77,12 @@ pub fn unpack(
 ) -> Result<Texels, AllocError>
     requires pair { IsTrue (is_pair format kind) }
     requires aligned { IsTrue (is_alignment align) }
-    ensures { IfOk result (λ texels. texels ≡ image format kind align w h piece.now) }
+    ensures value { IfOk result (λ texels. texels ≡ image format kind align w h piece.now) }
+    ensures count { IfOk result (λ texels. length texels ≡ w * h) }
+
+    // texel x of row y
+    ensures placed { IfOk result (λ texels. (x y : ℕ) → x < w → y < h → slice_index texels (y * w + x)
+        ≡ texel_at format kind piece.now (row_start format kind align w y + x * texel_bytes format kind)) }
 {
     let stride = row_stride(format, kind, align, w);
     let mut texels = Vec::with_capacity(alloc, usize::from(w) * usize::from(h))?;

@@ -1,5 +1,5 @@
 //! The levels of an image with a palette.
-ghost use Rattle.std.specs.Prelude.{◌≡◌, ℕ, ◌+◌, ◌*◌, ◌<◌, ◌≤◌, ◌^◌, ◌++◌, length, IfOk, OnOk};
+ghost use Rattle.std.specs.Prelude.{◌≡◌, ℕ, ◌+◌, ◌*◌, ◌<◌, ◌≤◌, ◌^◌, ◌++◌, length, vec_len, All, IfOk, OnOk};
 ghost use Rattle.pixel_unpack.specs.Palette.{index_bits, entries, level_texels, level_at, level_side, level_bytes, palette_size, palette_levels};
 
 use crate::palette::{
@@ -93,7 +93,9 @@ pub fn unpack_palette(
     levels: u8,
     piece: &[u8],
 ) -> Result<Vec<Level>, AllocError>
-    ensures { IfOk result (λ all. all.items ≡ palette_levels format w h levels piece.now) }
+    ensures value { IfOk result (λ all. all.items ≡ palette_levels format w h levels piece.now) }
+    ensures count { IfOk result (λ all. vec_len all ≡ levels) }
+    ensures filled { IfOk result (λ all. All (λ level. length level.texels ≡ level.w * level.h) all.items) }
 {
     let found = entries(alloc, format, piece)?;
     let mut all = Vec::with_capacity(alloc, usize::from(levels))?;

@@ -21,3 +21,6 @@ mod palette;
 
 pub use image::unpack;
 pub use levels::{palette_size, unpack_palette};
+
+#[cfg(test)]
+mod tests;

@@ -1,4 +1,4 @@
-use Rattle.std.proofs.Common.{◌≡◌, ◌+◌, ℕ, ap, sym, ◌∙◌, arith}
+use Rattle.std.proofs.Common.{sym, ◌∙◌, arith}
 use Rattle.pixel_unpack.proofs.Palettes.{size-nil, size_more}
 use Rattle.pixel_unpack.proofs.levels.palette_size.Goals as goal
 

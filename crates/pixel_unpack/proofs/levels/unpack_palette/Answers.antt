@@ -1,7 +1,6 @@
-use Rattle.std.proofs.Common.{◌≡◌, ◌++◌, ◌∷◌, [], ℕ, List, ap, sym, ◌∙◌, arith}
+use Rattle.std.proofs.Common.{◌≡◌, ◌*◌, List, length, All, subst, ap, sym, ◌∙◌, arith}
 use Rattle.gl_records.specs.declared.level.Level.{Level}
-use Rattle.pixel_unpack.specs.Palette.{level, level_at, level_side, palette_size, palette_levels}
-use Rattle.pixel_unpack.proofs.Palettes.{size-nil, size_more, levels-nil, levels_push}
+use Rattle.pixel_unpack.proofs.Palettes.{size-nil, size_more, levels-nil, levels_push, length-levels, filled-levels}
 use Rattle.pixel_unpack.proofs.levels.unpack_palette.Goals as goal
 
 pub loop-i-init : goal.loop-i-init
@@ -20,3 +19,15 @@ loop-i-preserved c =
       behind = cc;
       most = omega arith;
     }
+
+pub returns-clause-count : goal.returns-clause-count
+returns-clause-count c =
+    let all = c.loop-i.all in
+    let made = ap (λ (levels : List Level). length levels) c.loop-i.invariant.so_far in
+    let count = length-levels c.args.format c.args.w c.args.h c.loop-i.i c.args.piece.now in
+    omega (arith, all.ok.0)
+
+pub returns-clause-filled : goal.returns-clause-filled
+returns-clause-filled c =
+    let P : List Level → Type 0 = λ levels. All (λ level. length level.texels ≡ level.w * level.h) levels in
+    subst P (sym c.loop-i.invariant.so_far) (filled-levels c.args.format c.args.w c.args.h c.loop-i.i c.args.piece.now)
