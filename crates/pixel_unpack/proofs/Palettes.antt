@@ -8,7 +8,7 @@ use Rattle.gl_tokens.specs.declared.palette_format.PaletteFormat.{PaletteFormat}
 use Rattle.gl_records.specs.declared.level.Level.{Level}
 use Rattle.pixel_unpack.specs.Texel.{texel_at}
 use Rattle.pixel_unpack.specs.Image.{texel_row}
-use Rattle.pixel_unpack.specs.Palette.{index_bits, entry_format, entry_kind, entry_bytes, entry, entries, entries_bytes, index_at, level_texels, level_side, level_bytes, level, level_at, palette_size, palette_levels}
+use Rattle.pixel_unpack.specs.Palette.{index_bits, entry_format, entry_kind, entry_bytes, entry, entries, entries_bytes, index_at, named_texels, level_texels, level_side, level_bytes, level, level_at, palette_size, palette_levels}
 use Rattle.pixel_unpack.proofs.Ranges.{maps_same, sums_more}
 
 -- the entries are a row of texels at the front of the piece
@@ -25,10 +25,10 @@ at-entries format piece index within =
     get_or-map-range_with_len (λ k. entry format piece k) 0 (2 ^ index_bits format) index index 0 within place
 
 -- the texels that indices name, through the entries as they were made
-pub named-entries : (format : PaletteFormat) (piece found : List ℕ) (bits start count : ℕ) → found ≡ entries format piece → index_bits format ≡ bits
+pub named-entries : (format : PaletteFormat) (piece palette : List ℕ) (bits start count : ℕ) → palette ≡ entries format piece → index_bits format ≡ bits
     → ((k : ℕ) → index_at bits piece start k < 2 ^ bits)
-    → map (λ k. get_or found (index_at bits piece start k) 0) (range_with_len 0 count) ≡ level_texels format piece start count
-named-entries format piece found bits start count made is within =
+    → named_texels palette bits piece start count ≡ level_texels format piece start count
+named-entries format piece palette bits start count made is within =
     let index = λ (k : ℕ). index_at bits piece start k in
     let below : (k : ℕ) → index k < 2 ^ index_bits format = λ k. rw is (within k) in
     ap (λ (all : List ℕ). map (λ k. get_or all (index k) 0) (range_with_len 0 count)) made

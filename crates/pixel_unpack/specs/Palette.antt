@@ -73,6 +73,10 @@ index_at bits piece start k =
     if bits == 8 then slice_index piece (start + k) else
     if k % 2 == 0 then slice_index piece (start + k / 2) / 16 else slice_index piece (start + k / 2) % 16
 
+-- the texels that so many indices name in a list of entries
+abbrev pub named_texels : List ℕ → ℕ → List ℕ → ℕ → ℕ → List ℕ
+named_texels palette bits piece start count = map (λ k. slice_index palette (index_at bits piece start k)) (range_with_len 0 count)
+
 -- the texels that so many indices name, the first of them at this byte
 abbrev pub level_texels : PaletteFormat → List ℕ → ℕ → ℕ → List ℕ
 level_texels format piece start count =

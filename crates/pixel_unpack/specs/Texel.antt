@@ -34,7 +34,18 @@ texel_bytes _ UnsignedShort565 = 2
 abbrev pub rgba : ℕ → ℕ → ℕ → ℕ → ℕ
 rgba r g b a = from_le_bytes w32 (r ∷ g ∷ b ∷ a ∷ [])
 
--- the texel of a byte for each component; a byte outside of the piece is 0
+-- the bytes of the piece from a place on; a byte outside of it is 0
+abbrev pub two_at : List ℕ → ℕ → List ℕ
+two_at piece start = slice_index piece start ∷ slice_index piece (start + 1) ∷ []
+
+abbrev pub three_at : List ℕ → ℕ → List ℕ
+three_at piece start = slice_index piece start ∷ slice_index piece (start + 1) ∷ slice_index piece (start + 2) ∷ []
+
+abbrev pub four_at : List ℕ → ℕ → List ℕ
+four_at piece start =
+    slice_index piece start ∷ slice_index piece (start + 1) ∷ slice_index piece (start + 2) ∷ slice_index piece (start + 3) ∷ []
+
+-- the texel of a byte for each component
 abbrev pub byte_texel : BaseFormat → List ℕ → ℕ → ℕ
 byte_texel Alpha piece start = rgba 0 0 0 (slice_index piece start)
 byte_texel Rgb piece start =
@@ -45,9 +56,9 @@ byte_texel Luminance piece start = rgba (slice_index piece start) (slice_index p
 byte_texel LuminanceAlpha piece start =
     rgba (slice_index piece start) (slice_index piece start) (slice_index piece start) (slice_index piece (start + 1))
 
--- the two bytes from a place on as a number, the low one first; a byte outside of the piece is 0
+-- two bytes as a number, the low one first
 abbrev pub short_at : List ℕ → ℕ → ℕ
-short_at piece start = from_le_bytes w16 (slice_index piece start ∷ slice_index piece (start + 1) ∷ [])
+short_at piece start = from_le_bytes w16 (two_at piece start)
 
 -- the texels of packed numbers: the first component is in the high bits
 abbrev pub texel_4444 : ℕ → ℕ

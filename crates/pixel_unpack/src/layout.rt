@@ -4,15 +4,16 @@ ghost use Rattle.std.specs.List.{range_with_len};
 ghost use Rattle.pixel_unpack.specs.Texel.{rgba, short_at, texel_4444, texel_5551, texel_565, byte_texel};
 ghost use Rattle.gl_tokens.specs.declared.base_format.BaseFormat.TheVariants as base;
 
-use crate::bytes::{byte_at, short_at};
+use crate::bytes::{byte_at, four_at, short_at, three_at, two_at};
 use crate::component::{five_bits, four_bits, one_bit, six_bits};
 use std::alloc::AllocError;
 
 /// How the bytes of a texel are laid out.
 pub trait Layout {
+    // texel x of the row that begins at this byte of the piece
     ghost texel: { List ℕ → ℕ → ℕ → ℕ };
 
-    /// Texel `x` of the row that begins at this byte of the piece.
+    /// Texel `x` of the row that begins at this byte of the piece, R G B A.
     fn read(piece: &[u8], start: usize, x: usize) -> u32
         requires small { start < 2 ^ 60 }
         requires short { x < 2 ^ 16 }
@@ -49,9 +50,8 @@ impl Layout for LuminanceAlphas {
     ghost texel = { λ piece start x. byte_texel base.LuminanceAlpha piece (start + x * 2) };
 
     fn read(piece: &[u8], start: usize, x: usize) -> u32 {
-        let at = start + x * 2;
-        let l = byte_at(piece, at);
-        u32::from_le_bytes([l, l, l, byte_at(piece, at + 1)])
+        let [l, a] = two_at(piece, start + x * 2);
+        u32::from_le_bytes([l, l, l, a])
     }
 }
 
@@ -62,13 +62,8 @@ impl Layout for Rgbs {
     ghost texel = { λ piece start x. byte_texel base.Rgb piece (start + x * 3) };
 
     fn read(piece: &[u8], start: usize, x: usize) -> u32 {
-        let at = start + x * 3;
-        u32::from_le_bytes([
-            byte_at(piece, at),
-            byte_at(piece, at + 1),
-            byte_at(piece, at + 2),
-            255,
-        ])
+        let [r, g, b] = three_at(piece, start + x * 3);
+        u32::from_le_bytes([r, g, b, 255])
     }
 }
 
@@ -79,13 +74,7 @@ impl Layout for Rgbas {
     ghost texel = { λ piece start x. byte_texel base.Rgba piece (start + x * 4) };
 
     fn read(piece: &[u8], start: usize, x: usize) -> u32 {
-        let at = start + x * 4;
-        u32::from_le_bytes([
-            byte_at(piece, at),
-            byte_at(piece, at + 1),
-            byte_at(piece, at + 2),
-            byte_at(piece, at + 3),
-        ])
+        u32::from_le_bytes(four_at(piece, start + x * 4))
     }
 }
 
@@ -148,7 +137,8 @@ pub fn push_row<L: Layout>(
     texels: &mut Vec<u32>,
 ) -> Result<(), AllocError>
     requires { start < 2 ^ 60 }
-    ensures { OnOk result (texels.new.items ≡ texels.old.items ++ map (λ x. L.texel piece.now start x) (range_with_len 0 w)) }
+    ensures { OnOk result (texels.new.items ≡ texels.old.items
+        ++ map (λ x. L.texel piece.now start x) (range_with_len 0 w)) }
 {
     for x in 0..usize::from(w) {
         texels.push(L::read(piece, start, x))?;

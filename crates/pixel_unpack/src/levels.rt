@@ -41,20 +41,20 @@ pub fn palette_size(format: PaletteFormat, w: u16, h: u16, levels: u8) -> u64
 /// Appends the entries that `count` indices name, of which the first begins at this byte.
 fn push_level(
     format: PaletteFormat,
-    found: &[u32],
+    palette: &[u32],
     piece: &[u8],
     start: usize,
     count: usize,
     texels: &mut Vec<u32>,
 ) -> Result<(), AllocError>
-    requires all { found.now ≡ entries format piece.now }
+    requires all { palette.now ≡ entries format piece.now }
     requires small { start + count < 2 ^ 63 }
     ensures { OnOk result (texels.new.items ≡ texels.old.items ++ level_texels format piece.now start count) }
 {
     if index_bits(format) == 4 {
-        push_by_nibbles(found, piece, start, count, texels)
+        push_by_nibbles(palette, piece, start, count, texels)
     } else {
-        push_by_bytes(found, piece, start, count, texels)
+        push_by_bytes(palette, piece, start, count, texels)
     }
 }
 
@@ -62,19 +62,19 @@ fn push_level(
 fn unpack_level(
     alloc: Global,
     format: PaletteFormat,
-    found: &[u32],
+    palette: &[u32],
     w: u16,
     h: u16,
     piece: &[u8],
     start: usize,
 ) -> Result<Level, AllocError>
-    requires all { found.now ≡ entries format piece.now }
+    requires all { palette.now ≡ entries format piece.now }
     requires small { start < 2 ^ 60 }
     ensures { IfOk result (λ level. level ≡ level_at format w h piece.now start) }
 {
     let count = usize::from(w) * usize::from(h);
     let mut texels = Vec::with_capacity(alloc, count)?;
-    push_level(format, found, piece, start, count, &mut texels)?;
+    push_level(format, palette, piece, start, count, &mut texels)?;
     Ok(Level {
         w,
         h,
@@ -97,12 +97,12 @@ pub fn unpack_palette(
     ensures count { IfOk result (λ all. vec_len all ≡ levels) }
     ensures filled { IfOk result (λ all. All (λ level. length level.texels ≡ level.w * level.h) all.items) }
 {
-    let found = entries(alloc, format, piece)?;
+    let palette = entries(alloc, format, piece)?;
     let mut all = Vec::with_capacity(alloc, usize::from(levels))?;
     let mut start = entries_bytes(format);
     for i in 0..levels {
         let (w_i, h_i) = (level_side(w, i), level_side(h, i));
-        all.push(unpack_level(alloc, format, &found, w_i, h_i, piece, start)?)?;
+        all.push(unpack_level(alloc, format, &palette, w_i, h_i, piece, start)?)?;
         start += level_bytes(format, w, h, i);
     }
     Ok(all)

@@ -1,7 +1,6 @@
 //! Palettes: their entries, and the indices of a level into them.
-ghost use Rattle.std.specs.Prelude.{◌≡◌, ℕ, ◌+◌, ◌*◌, ◌<◌, ◌≤◌, ◌^◌, ◌++◌, ◌⊎◌, length, map, slice_index, IfOk, OnOk};
-ghost use Rattle.std.specs.List.{range_with_len};
-ghost use Rattle.pixel_unpack.specs.Palette.{index_bits, entry_format, entry_kind, entries, entries_bytes, index_at};
+ghost use Rattle.std.specs.Prelude.{◌≡◌, ℕ, ◌+◌, ◌*◌, ◌<◌, ◌≤◌, ◌^◌, ◌++◌, ◌⊎◌, length, IfOk, OnOk};
+ghost use Rattle.pixel_unpack.specs.Palette.{index_bits, entry_format, entry_kind, entries, entries_bytes, index_at, named_texels};
 
 use crate::bytes::byte_at;
 use crate::image::{push_texels, texel_bytes};
@@ -71,19 +70,19 @@ pub fn entries_bytes(format: PaletteFormat) -> usize
 
 /// The entries, in their order: texels one behind the other at the front of the piece.
 pub fn entries(alloc: Global, format: PaletteFormat, piece: &[u8]) -> Result<Vec<u32>, AllocError>
-    ensures { IfOk result (λ found. found.items ≡ entries format piece.now) }
+    ensures { IfOk result (λ palette. palette.items ≡ entries format piece.now) }
 {
     let count = entry_count(format);
-    let mut found = Vec::with_capacity(alloc, usize::from(count))?;
+    let mut palette = Vec::with_capacity(alloc, usize::from(count))?;
     push_texels(
         entry_format(format),
         entry_kind(format),
         count,
         piece,
         0,
-        &mut found,
+        &mut palette,
     )?;
-    Ok(found)
+    Ok(palette)
 }
 
 /// Index `k` of those of 4 bits that begin at this byte.
@@ -98,38 +97,38 @@ fn nibble_at(piece: &[u8], start: usize, k: usize) -> u8
 
 /// Appends the entries that indices of 4 bits name.
 pub fn push_by_nibbles(
-    found: &[u32],
+    palette: &[u32],
     piece: &[u8],
     start: usize,
     count: usize,
     texels: &mut Vec<u32>,
 ) -> Result<(), AllocError>
     requires small { start + count < 2 ^ 63 }
-    requires sixteen { length found.now ≡ 16 }
-    ensures { OnOk result (texels.new.items ≡ texels.old.items ++ map (λ k. slice_index found.now (index_at 4 piece.now start k)) (range_with_len 0 count)) }
+    requires sixteen { length palette.now ≡ 16 }
+    ensures { OnOk result (texels.new.items ≡ texels.old.items ++ named_texels palette.now 4 piece.now start count) }
 {
     for k in 0..count {
         let index = nibble_at(piece, start, k);
-        texels.push(found[usize::from(index)])?;
+        texels.push(palette[usize::from(index)])?;
     }
     Ok(())
 }
 
 /// Appends the entries that indices of a byte name.
 pub fn push_by_bytes(
-    found: &[u32],
+    palette: &[u32],
     piece: &[u8],
     start: usize,
     count: usize,
     texels: &mut Vec<u32>,
 ) -> Result<(), AllocError>
     requires small { start + count < 2 ^ 63 }
-    requires all { length found.now ≡ 256 }
-    ensures { OnOk result (texels.new.items ≡ texels.old.items ++ map (λ k. slice_index found.now (index_at 8 piece.now start k)) (range_with_len 0 count)) }
+    requires all { length palette.now ≡ 256 }
+    ensures { OnOk result (texels.new.items ≡ texels.old.items ++ named_texels palette.now 8 piece.now start count) }
 {
     for k in 0..count {
         let index = byte_at(piece, start + k);
-        texels.push(found[usize::from(index)])?;
+        texels.push(palette[usize::from(index)])?;
     }
     Ok(())
 }

@@ -10,7 +10,7 @@ pub returns : goal.returns
 returns c =
     let piece = c.args.piece.now in
     c.in_ok-push_texels.ensures
-    ∙ ap (λ (front : List ℕ). front ++ texel_row c.entry_format.result c.entry_kind.result c.entry_count-count.result piece 0) c.in_ok-found.ensures.items
+    ∙ ap (λ (front : List ℕ). front ++ texel_row c.entry_format.result c.entry_kind.result c.entry_count-count.result piece 0) c.in_ok-palette.ensures.items
     ∙ ap (λ (base : BaseFormat). texel_row base c.entry_kind.result c.entry_count-count.result piece 0) c.entry_format.ensures
     ∙ ap (λ (kind : TexelType). texel_row (entry_format c.args.format) kind c.entry_count-count.result piece 0) c.entry_kind.ensures
     ∙ ap (λ (count : ℕ). texel_row (entry_format c.args.format) (entry_kind c.args.format) count piece 0) c.entry_count-count.ensures

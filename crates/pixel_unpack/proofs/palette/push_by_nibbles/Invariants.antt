@@ -1,8 +1,6 @@
-use Rattle.std.proofs.Common.{◌≡◌, ◌++◌, map, get_or}
-use Rattle.std.specs.List.{range_with_len}
-use Rattle.pixel_unpack.specs.Palette.{index_at}
+use Rattle.std.proofs.Common.{◌≡◌, ◌++◌}
+use Rattle.pixel_unpack.specs.Palette.{named_texels}
 use Rattle.pixel_unpack.proofs.palette.push_by_nibbles.Given as goal
 
 abbrev pub invariant-loop-k : goal.invariant-loop-k
-invariant-loop-k l =
-    l.texels.items ≡ l.fn.texels.items ++ map (λ k. get_or l.found (index_at 4 l.piece l.start k) 0) (range_with_len 0 l.k)
+invariant-loop-k l = l.texels.items ≡ l.fn.texels.items ++ named_texels l.palette 4 l.piece l.start l.k
