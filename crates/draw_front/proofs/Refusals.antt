@@ -1,5 +1,7 @@
 -- A command that makes an error changes nothing but the flag, the lines and the count of records.
-use Rattle.std.proofs.Common.{◌≡◌, ◌∙◌, ◌+◌, ℕ, ℤ, Bool, false, cond, List, [], ◌∷◌, Option, Some, None, Result, Ok, Err, OnOk, refl, sym, ap}
+use Rattle.std.proofs.Common.{◌≡◌, ◌∙◌, ◌+◌, ℕ, ℤ, Bool, false, cond, List, [], ◌∷◌, ◌++◌, Option, Some, None, Result, Ok, Err, OnErr, OnOk, refl, sym, ap}
+use Rattle.std.specs.Prelude.{option_to_list}
+use Rattle.std.proofs.lemmas.List.{append-nil}
 use Rattle.gl_records.specs.declared.rec.Rec.{Rec}
 use Rattle.gl_records.specs.declared.rec.Rec.TheVariants.{End, GetError, Get, IsEnabled}
 use Rattle.gl_records.specs.Captured.{Captured}
@@ -8,8 +10,9 @@ use Rattle.gl_tokens.specs.declared.gl_error.GlError.{GlError}
 use Rattle.output_format.specs.Log.{raise_line}
 use Rattle.trace_reader.specs.Trace.{is_end}
 use Rattle.draw_front.specs.Call.{answer_error, answer_line, answered, commanded, items_of, line_of, with_error}
-use Rattle.draw_front.specs.Collecting.{Collecting, after_call, stepped, with_lines, with_refusal}
+use Rattle.draw_front.specs.Collecting.{Collecting, after_call, asked_of, stepped, with_lines, with_refusal}
 use Rattle.draw_front.specs.Context.{Context}
+use Rattle.draw_front.specs.Immediate.{joined}
 
 -- End makes no error
 refused-plain : (context : Context) (rec : Rec) (error : GlError) → (commanded context rec).1 ≡ Some error → is_end rec ≡ false
@@ -48,3 +51,21 @@ stepped-refused now rec error none is same =
 pub OnOk-map : {A E P Q : Type 0} (r : Result A E) → (P → Q) → OnOk r P → OnOk r Q
 OnOk-map (Ok value) f p = f p
 OnOk-map (Err error) f p = tt
+
+pub OnErr-map : {A E P Q : Type 0} (r : Result A E) → (P → Q) → OnErr r P → OnErr r Q
+OnErr-map (Ok value) f p = tt
+OnErr-map (Err error) f p = f p
+
+-- where there is no line, nothing is appended
+pub no-line : (lines later : List ℕ) (line : Option (List ℕ)) → later ≡ lines ++ joined (option_to_list line) → line ≡ None → later ≡ lines
+no-line lines later line is none = is ∙ ap (λ (l : Option (List ℕ)). lines ++ joined (option_to_list l)) none ∙ append-nil lines
+
+-- a call has the command's error
+answered-error : (index : ℕ) (items : List Captured) (line : Option (List ℕ)) (answer : Context × Option GlError) (error : GlError) → answer.1 ≡ Some error → (answered index items line answer).error ≡ Some error
+answered-error index items line (context, None) error is = absurd cc
+answered-error index items line (context, Some found) error is = is
+
+pub asked-error : (now : Collecting) (rec : Rec) (error other : GlError) → (commanded now.context rec).1 ≡ Some error → (asked_of now rec).error ≡ Some other → error ≡ other
+asked-error now rec error other is asked =
+    let found : Some error ≡ Some other = sym (answered-error now.index (items_of now.size now.context rec) (line_of now.context now.index rec) (commanded now.context rec) error is) ∙ asked in
+    cc

@@ -1,7 +1,9 @@
-use Rattle.std.proofs.Common.{◌≡◌, ◌∙◌, None, sym, ap}
+use Rattle.std.proofs.Common.{◌≡◌, ◌∙◌, ℕ, List, Some, None, true, sym, ap}
 use Rattle.draw_front.specs.Call.{commanded}
-use Rattle.draw_front.specs.Collecting.{Collecting, stepped}
+use Rattle.draw_front.specs.Collecting.{Collecting, stepped, with_refusal}
+use Rattle.draw_front.specs.Context.{Context}
 use Rattle.draw_front.specs.Pending.{items_left}
+use Rattle.draw_front.proofs.Refusals.{asked-error, no-line, refused-line, stepped-refused, OnErr-map, OnOk-map}
 use Rattle.draw_front.proofs.Stepped.{left-of, stepped-ran}
 use Rattle.draw_front.proofs.front.Front.step.Goals as goal
 
@@ -22,3 +24,66 @@ returns-in-None-clause-asked c =
     } in
     stepped-ran before c.args.rec later _ _ _ _ run left c.in-Ok.ensures.line c.in-Ok.ensures.count c.index_after-index.ensures.value
     ∙ ap (λ (now : Collecting). stepped now c.args.rec) c.self.view_is
+
+pub returns-in-Some-clause-asked : goal.returns-in-Some-clause-asked
+returns-in-Some-clause-asked c =
+    let inside = c.self.inside in
+    let error = c.in-Some.error in
+    let is : (commanded inside.context c.args.rec).1 ≡ Some error = sym (ap (λ answer. answer.1) c.run.ensures.run) ∙ c.in-Some.is in
+    let lines = no-line inside.lines.items _ _ c.in-Ok.ensures.line (refused-line inside.context inside.index c.args.rec error is) in
+    let front : Context → List ℕ → Collecting = λ context lines. record {
+      size = inside.size;
+      context = context;
+      left = items_left inside.size context inside.pending;
+      lines = lines;
+      line_count = inside.line_count;
+      index = inside.index;
+      out_of_memory = inside.out_of_memory;
+    } in
+    let before : front c.run.new.self c.append_line.new.lines.items ≡ c.args.self.now =
+    ap (λ (context : Context). front context c.append_line.new.lines.items) c.in-Some.ensures.unchanged ∙ ap (front inside.context) lines ∙ c.self.view_is in
+    let now_is : (commanded c.args.self.now.context c.args.rec).1 ≡ Some error = rw (← c.self.view_is) is in
+    let same : (commanded inside.context c.args.rec).0 ≡ inside.context = sym (ap (λ answer. answer.0) c.run.ensures.run) ∙ c.in-Some.ensures.unchanged in
+    let now_same : (commanded c.args.self.now.context c.args.rec).0 ≡ c.args.self.now.context = rw (← c.self.view_is) same in
+    OnOk-map c.refuse.result (λ line. line ∙ ap (λ (then : Collecting). with_refusal then error) before ∙ sym (stepped-refused c.args.self.now c.args.rec error c.requires.taken now_is now_same))
+    c.refuse.ensures.line
+
+pub returns-in-Some-clause-refused : goal.returns-in-Some-clause-refused
+returns-in-Some-clause-refused c = λ other asked.
+    let inside = c.self.inside in
+    let error = c.in-Some.error in
+    let is : (commanded inside.context c.args.rec).1 ≡ Some error = sym (ap (λ answer. answer.1) c.run.ensures.run) ∙ c.in-Some.is in
+    let lines = no-line inside.lines.items _ _ c.in-Ok.ensures.line (refused-line inside.context inside.index c.args.rec error is) in
+    let front : Context → List ℕ → Collecting = λ context lines. record {
+      size = inside.size;
+      context = context;
+      left = items_left inside.size context inside.pending;
+      lines = lines;
+      line_count = inside.line_count;
+      index = inside.index;
+      out_of_memory = inside.out_of_memory;
+    } in
+    let before : front c.run.new.self c.append_line.new.lines.items ≡ c.args.self.now =
+    ap (λ (context : Context). front context c.append_line.new.lines.items) c.in-Some.ensures.unchanged ∙ ap (front inside.context) lines ∙ c.self.view_is in
+    let now_is : (commanded c.args.self.now.context c.args.rec).1 ≡ Some error = rw (← c.self.view_is) is in
+    let same = asked-error c.args.self.now c.args.rec error other now_is asked in
+    OnOk-map c.refuse.result (λ line. line ∙ ap (λ (then : Collecting). with_refusal then error) before ∙ ap (with_refusal c.args.self.now) same) c.refuse.ensures.line
+
+pub returns-in-Some-clause-memory : goal.returns-in-Some-clause-memory
+returns-in-Some-clause-memory c =
+    let inside = c.self.inside in
+    let error = c.in-Some.error in
+    let is : (commanded inside.context c.args.rec).1 ≡ Some error = sym (ap (λ answer. answer.1) c.run.ensures.run) ∙ c.in-Some.is in
+    let lines = no-line inside.lines.items _ _ c.in-Ok.ensures.line (refused-line inside.context inside.index c.args.rec error is) in
+    let front : Context → List ℕ → Collecting = λ context lines. record {
+      size = inside.size;
+      context = context;
+      left = items_left inside.size context inside.pending;
+      lines = lines;
+      line_count = inside.line_count;
+      index = inside.index;
+      out_of_memory = inside.out_of_memory;
+    } in
+    let before : front c.run.new.self c.append_line.new.lines.items ≡ c.args.self.now =
+    ap (λ (context : Context). front context c.append_line.new.lines.items) c.in-Some.ensures.unchanged ∙ ap (front inside.context) lines ∙ c.self.view_is in
+    OnErr-map c.refuse.result (λ line. line ∙ ap (λ (then : Collecting). let next : Collecting = record then { out_of_memory = true } in next) before) c.refuse.ensures.memory
