@@ -40,7 +40,7 @@ pub use item::Item;
 pub use laws::drawn_pixels;
 pub use level::{ImageSet, Level};
 pub use material::Material;
-pub use params::Params;
+pub use params::{Columns, Params};
 pub use pixel::{GREATEST_DEPTH, Pixel};
 pub use pixel_box::PixelBox;
 pub use prim::{Prim, PrimKind, Primitive, VertexOut};

@@ -1,5 +1,5 @@
 use crate::bytes::Bytes;
-use crate::params::Params;
+use crate::params::{Columns, Params};
 use fx_arith::Fx;
 
 /// A record of a trace: one command with its arguments. The reader makes it of the bytes, and the context
@@ -83,6 +83,61 @@ pub enum Rec {
         r: Fx,
         q: Fx,
     },
+    /// Which matrices later commands act on (OpenGL ES 1.1.12, 2.10.2).
+    MatrixMode {
+        mode: u32,
+    },
+    /// The current matrix changes nothing from here on.
+    LoadIdentity,
+    /// The current matrix is this one from here on.
+    LoadMatrixx {
+        columns: Columns,
+    },
+    /// The current matrix is multiplied by this one, which stands on the right.
+    MultMatrixx {
+        columns: Columns,
+    },
+    /// The current matrix is kept, and stays current.
+    PushMatrix,
+    /// The matrix that was kept last is current again.
+    PopMatrix,
+    /// The current matrix is multiplied by a rotation by so many degrees about this axis.
+    Rotatex {
+        angle: Fx,
+        x: Fx,
+        y: Fx,
+        z: Fx,
+    },
+    /// The current matrix is multiplied by a scaling.
+    Scalex {
+        x: Fx,
+        y: Fx,
+        z: Fx,
+    },
+    /// The current matrix is multiplied by a translation.
+    Translatex {
+        x: Fx,
+        y: Fx,
+        z: Fx,
+    },
+    /// The current matrix is multiplied by a perspective projection.
+    Frustumx {
+        left: Fx,
+        right: Fx,
+        bottom: Fx,
+        top: Fx,
+        near: Fx,
+        far: Fx,
+    },
+    /// The current matrix is multiplied by a parallel projection.
+    Orthox {
+        left: Fx,
+        right: Fx,
+        bottom: Fx,
+        top: Fx,
+        near: Fx,
+        far: Fx,
+    },
     /// Where the window lies on the surface, in pixels (OpenGL ES 1.1.12, 2.10.1).
     Viewport {
         x: i32,
@@ -119,6 +174,11 @@ pub enum Rec {
     PolygonOffsetx {
         factor: Fx,
         units: Fx,
+    },
+    /// The plane that the user clips at, in object coordinates (OpenGL ES 1.1.12, 2.11).
+    ClipPlanex {
+        plane: u32,
+        equation: Params,
     },
     /// How carefully something is to be done (OpenGL ES 1.1.12, 5.6).
     Hint {

@@ -24,12 +24,6 @@ opening_values = record {
   texture1 = origin;
 }
 
--- ActiveTexture
-abbrev pub active_texture : CurrentValues → ℕ → CurrentValues × Option GlError
-active_texture s code = done s do
-  unit ← known (texture_unit.from_code_of code)
-  Ok (record s { unit = unit })
-
 -- Color: kept as it is given
 abbrev pub with_color : CurrentValues → Fx → Fx → Fx → Fx → CurrentValues
 with_color s red green blue alpha = record s { color = red ∷ green ∷ blue ∷ alpha ∷ [] }

@@ -10,4 +10,5 @@ pub mod Pixels
 pub mod Raster
 pub mod State
 pub mod Switches
+pub mod Transforms
 pub mod Values

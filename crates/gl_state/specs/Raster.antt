@@ -1,5 +1,5 @@
 -- The viewport, and how primitives are made into pixels (OpenGL ES 1.1.12, 2.10.1, 2.12 and 3.3 to 3.5).
-use Rattle.std.specs.Prelude.{ℕ, ℤ, pos, negsuc, ◌+ℤ◌, Bool, true, false, ◌||◌, int_lt, int_le, List, [], ◌∷◌, Option, Some, None, Ok, if◌then◌else◌, unsigned_abs}
+use Rattle.std.specs.Prelude.{ℕ, ℤ, pos, negsuc, ◌+ℤ◌, Bool, true, false, not, ◌==◌, ◌||◌, int_lt, int_le, List, [], ◌∷◌, Option, Some, None, Ok, if◌then◌else◌, unsigned_abs}
 use Rattle.fx_arith.specs.Number.{one, fixed, clamp, floor_div, in_unit}
 use Rattle.fx_arith.specs.declared.fx.Fx.{Fx}
 use Rattle.gl_records.specs.declared.size.Size.{Size}
@@ -12,7 +12,7 @@ use Rattle.gl_tokens.specs.Winding as winding
 use Rattle.gl_tokens.specs.declared.face.Face.{Face}
 use Rattle.gl_tokens.specs.declared.face.Face.TheVariants.{Front, Back, FrontAndBack}
 use Rattle.gl_tokens.specs.declared.gl_error.GlError.{GlError}
-use Rattle.gl_tokens.specs.declared.gl_error.GlError.TheVariants.{InvalidValue}
+use Rattle.gl_tokens.specs.declared.gl_error.GlError.TheVariants.{InvalidEnum, InvalidValue}
 use Rattle.gl_tokens.specs.declared.shade_model.ShadeModel.{ShadeModel}
 use Rattle.gl_tokens.specs.declared.shade_model.ShadeModel.TheVariants.{Flat, Smooth}
 use Rattle.gl_tokens.specs.declared.winding.Winding.{Winding}
@@ -27,7 +27,7 @@ abbrev pub side : ℤ → ℤ
 side = clamp (pos 0) (pos 2048)
 
 -- the viewport is the whole surface, depths are 0 to 1, back faces would be culled, counterclockwise triangles face
--- front; smooth shading, points and lines of one pixel, no offset
+-- front; smooth shading, points and lines of one pixel, no offset; a plane that every point lies on
 abbrev pub opening_raster : Size → Raster
 opening_raster size = record {
   x = pos 0;
@@ -43,6 +43,7 @@ opening_raster size = record {
   line_width = fixed one;
   offset_factor = fixed (pos 0);
   offset_units = fixed (pos 0);
+  plane = fixed (pos 0) ∷ fixed (pos 0) ∷ fixed (pos 0) ∷ fixed (pos 0) ∷ [];
 }
 
 -- Viewport: no side below 0; clamped
@@ -82,6 +83,14 @@ line_width s width = done s (unless (int_le width.0 (pos 0)) InvalidValue (Ok (r
 -- PolygonOffset
 abbrev pub with_offset : Raster → Fx → Fx → Raster
 with_offset s factor units = record s { offset_factor = factor; offset_units = units }
+
+-- the one plane that the user clips at: CLIP_PLANE0
+abbrev pub clip_plane0 : ℕ
+clip_plane0 = 0x3000
+
+-- ClipPlane, of a plane in eye coordinates
+abbrev pub clip_plane : Raster → ℕ → List Fx → Raster × Option GlError
+clip_plane s code plane = done s (unless (not (code == clip_plane0)) InvalidEnum (Ok (record s { plane = plane })))
 
 -- Hint: nothing is kept of it
 abbrev pub hint : Raster → ℕ → ℕ → Raster × Option GlError

@@ -3,14 +3,20 @@ use Rattle.std.specs.Prelude.{ℕ, Bool, true, false, ◌&&◌, [], ◌∷◌, O
 use Rattle.gl_records.specs.declared.attribs.Attribs.{Attribs}
 use Rattle.gl_records.specs.declared.clear.ClearItem.{ClearItem}
 use Rattle.gl_records.specs.declared.rec.Rec.{Rec}
-use Rattle.gl_records.specs.declared.rec.Rec.TheVariants.{ActiveTexture, Color4x, Color4ub, Normal3x, MultiTexCoord4x, Viewport, DepthRangex, CullFace, FrontFace, ShadeModel, PointSizex, LineWidthx, PolygonOffsetx, Hint, Enable, Disable, Fogx, LightModelx, Materialx, AlphaFuncx, StencilFunc, StencilOp, StencilMask, DepthFunc, DepthMask, Scissor, BlendFunc, LogicOp, ColorMask, ClearColorx, ClearDepthx, ClearStencil, TexEnvx, PixelStorei}
+use Rattle.gl_records.specs.declared.rec.Rec.TheVariants.{ActiveTexture, Color4x, Color4ub, Normal3x, MultiTexCoord4x, MatrixMode, LoadIdentity, LoadMatrixx, MultMatrixx, PushMatrix, PopMatrix, Rotatex, Scalex, Translatex, Frustumx, Orthox, Viewport, DepthRangex, CullFace, FrontFace, ShadeModel, PointSizex, LineWidthx, PolygonOffsetx, ClipPlanex, Hint, Enable, Disable, Fogx, LightModelx, Materialx, AlphaFuncx, StencilFunc, StencilOp, StencilMask, DepthFunc, DepthMask, Scissor, BlendFunc, LogicOp, ColorMask, ClearColorx, ClearDepthx, ClearStencil, TexEnvx, PixelStorei}
 use Rattle.gl_records.specs.declared.setup_rules.SetupRules.{SetupRules}
 use Rattle.gl_records.specs.declared.size.Size.{Size}
 use Rattle.gl_tokens.specs.Cap as cap
 use Rattle.gl_tokens.specs.Commands.{done, known, within, ◌>>=◌}
+use Rattle.gl_tokens.specs.TextureUnit as texture_unit
 use Rattle.gl_tokens.specs.declared.gl_error.GlError.{GlError}
 use Rattle.gl_tokens.specs.declared.texture_unit.TextureUnit.{TextureUnit}
 use Rattle.gl_tokens.specs.declared.texture_unit.TextureUnit.TheVariants.{Texture0, Texture1}
+use Rattle.fx_arith.specs.Matrix.{identity}
+use Rattle.matrix_stacks.specs.Eye.{plane_to_eye}
+use Rattle.matrix_stacks.specs.Stack.{top}
+use Rattle.matrix_stacks.specs.Stacks.{Matrices, opening_matrices, loaded, multiplied, push, pop, frustum, ortho}
+use Rattle.matrix_stacks.specs.Transform.{rotation, scaling, translation}
 use Rattle.gl_state.specs.Blending as blending
 use Rattle.gl_state.specs.Clears as clears
 use Rattle.gl_state.specs.Current as current
@@ -21,6 +27,8 @@ use Rattle.gl_state.specs.Lighting as lighting
 use Rattle.gl_state.specs.Pixels as pixels
 use Rattle.gl_state.specs.Raster as raster
 use Rattle.gl_state.specs.Switches as switches
+use Rattle.gl_state.specs.Transforms as transforms
+use Rattle.gl_state.specs.Values.{vector}
 use Rattle.gl_state.specs.declared.blending.Blending.{Blending}
 use Rattle.gl_state.specs.declared.current.CurrentValues.{CurrentValues}
 use Rattle.gl_state.specs.declared.environments.Environments.{Environments}
@@ -42,6 +50,7 @@ opening_state size = record {
   tests = tests.opening_tests size;
   blending = blending.opening_blending;
   clears = clears.opening_clears;
+  stacks = opening_matrices;
   environments = environments.opening_environments;
   pixels = pixels.opening_storage;
 }
@@ -71,6 +80,20 @@ on_environments s = within (λ part. record s { environments = part })
 abbrev pub on_pixels : State → PixelStorage × Option GlError → State × Option GlError
 on_pixels s = within (λ part. record s { pixels = part })
 
+abbrev pub on_stacks : State → Matrices × Option GlError → State × Option GlError
+on_stacks s = within (λ part. record s { stacks = part })
+
+-- the number of a texture unit
+abbrev pub unit_number : TextureUnit → ℕ
+unit_number Texture0 = 0
+unit_number Texture1 = 1
+
+-- ActiveTexture: the unit of the texture stacks too
+abbrev pub active_texture : State → ℕ → State × Option GlError
+active_texture s code = done s do
+  unit ← known (texture_unit.from_code_of code)
+  Ok (record s { current = record s.current { unit = unit }; stacks = record s.stacks { unit = unit_number unit } })
+
 -- while COLOR_MATERIAL is on, the material's ambient and diffuse colours are the current colour
 -- (OpenGL ES 1.1.12, 2.12.3)
 abbrev pub followed : State → State
@@ -88,11 +111,24 @@ switch s code on = done s do
 
 -- the state after a command, and the command's error; a command of something else changes nothing
 abbrev pub ran : State → Rec → State × Option GlError
-ran s (ActiveTexture texture) = on_current s (current.active_texture s.current texture)
+ran s (ActiveTexture texture) = active_texture s texture
 ran s (Color4x red green blue alpha) = (colored s (current.with_color s.current red green blue alpha), None)
 ran s (Color4ub red green blue alpha) = (colored s (current.with_color_bytes s.current red green blue alpha), None)
 ran s (Normal3x x y z) = (record s { current = current.with_normal s.current x y z }, None)
 ran state (MultiTexCoord4x texture s t r q) = on_current state (current.multi_tex_coord state.current texture s t r q)
+ran s (MatrixMode mode) = on_stacks s (transforms.matrix_mode s.stacks mode)
+ran s LoadIdentity = (record s { stacks = loaded s.stacks identity }, None)
+ran s (LoadMatrixx columns) = (record s { stacks = loaded s.stacks (transforms.matrix_of columns) }, None)
+ran s (MultMatrixx columns) = (record s { stacks = multiplied s.stacks (transforms.matrix_of columns) }, None)
+ran s PushMatrix = on_stacks s (push s.stacks)
+ran s PopMatrix = on_stacks s (pop s.stacks)
+ran s (Rotatex angle x y z) = (record s { stacks = multiplied s.stacks (rotation angle.0 (x ∷ y ∷ z ∷ [])) }, None)
+ran s (Scalex x y z) = (record s { stacks = multiplied s.stacks (scaling (x ∷ y ∷ z ∷ [])) }, None)
+ran s (Translatex x y z) = (record s { stacks = multiplied s.stacks (translation (x ∷ y ∷ z ∷ [])) }, None)
+ran s (Frustumx left right bottom upper near far) =
+    on_stacks s (frustum s.stacks (left ∷ right ∷ bottom ∷ upper ∷ near ∷ far ∷ []))
+ran s (Orthox left right bottom upper near far) =
+    on_stacks s (ortho s.stacks (left ∷ right ∷ bottom ∷ upper ∷ near ∷ far ∷ []))
 ran s (Viewport x y width height) = on_raster s (raster.viewport s.raster x y width height)
 ran s (DepthRangex near far) = (record s { raster = raster.with_depth_range s.raster near far }, None)
 ran s (CullFace face) = on_raster s (raster.cull_face s.raster face)
@@ -101,6 +137,8 @@ ran s (ShadeModel model) = on_raster s (raster.shade s.raster model)
 ran s (PointSizex size) = on_raster s (raster.point_size s.raster size)
 ran s (LineWidthx width) = on_raster s (raster.line_width s.raster width)
 ran s (PolygonOffsetx factor units) = (record s { raster = raster.with_offset s.raster factor units }, None)
+ran s (ClipPlanex plane equation) =
+    on_raster s (raster.clip_plane s.raster plane (plane_to_eye (top s.stacks.modelview) (vector equation)))
 ran s (Hint target mode) = on_raster s (raster.hint s.raster target mode)
 ran s (Enable capability) = switch s capability true
 ran s (Disable capability) = switch s capability false
@@ -138,11 +176,6 @@ setup_rules s = record {
   point = raster.in_pixels raster.greatest_point s.raster.point_size;
   line = raster.in_pixels raster.greatest_line s.raster.line_width;
 }
-
--- the number of the active texture unit
-abbrev pub unit_number : TextureUnit → ℕ
-unit_number Texture0 = 0
-unit_number Texture1 = 1
 
 -- the Clear that a mask asks for; none where it names no buffer
 abbrev pub clear_item : State → ℕ → Size → Option ClearItem

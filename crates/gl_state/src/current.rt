@@ -1,5 +1,5 @@
 ghost use Rattle.std.specs.Prelude.{◌≡◌, OnSome};
-ghost use Rattle.gl_state.specs.Current.{opening_values, active_texture as active_texture_of, with_color, with_color_bytes, with_normal, coordinates as coordinates_of, with_coordinates, multi_tex_coord as multi_tex_coord_of, attribs as attribs_of};
+ghost use Rattle.gl_state.specs.Current.{opening_values, with_color, with_color_bytes, with_normal, coordinates as coordinates_of, with_coordinates, multi_tex_coord as multi_tex_coord_of, attribs as attribs_of};
 
 use fx_arith::{Fx, fixed_from_byte};
 use gl_records::Attribs;
@@ -34,20 +34,6 @@ impl CurrentValues {
             normal: [Fx::ZERO, Fx::ZERO, Fx::ONE],
             texture0: ORIGIN,
             texture1: ORIGIN,
-        }
-    }
-
-    /// ActiveTexture: InvalidEnum where there is no such unit.
-    pub(crate) fn active_texture(&mut self, code: u32) -> Option<GlError>
-        ensures run { (self.new, result) ≡ active_texture_of self.old code }
-        ensures unchanged { OnSome result (self.new ≡ self.old) }
-    {
-        match TextureUnit::from_code(code) {
-            Some(unit) => {
-                self.unit = unit;
-                None
-            }
-            None => Some(GlError::InvalidEnum),
         }
     }
 

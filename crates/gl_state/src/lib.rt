@@ -26,6 +26,7 @@ mod state;
 mod switches;
 #[cfg(test)]
 mod tests;
+mod transforms;
 mod unit_fx;
 mod values;
 mod viewport;

@@ -1,12 +1,15 @@
 ghost use Rattle.std.specs.Prelude.{◌≡◌, ◌≤◌, pos, negsuc, ◌≤ℤ◌, [], ◌∷◌, slice_index_or, OnSome};
 ghost use Rattle.gl_records.specs.Size.{IsSize};
-ghost use Rattle.gl_state.specs.Raster.{opening_raster, viewport as viewport_of, with_depth_range, cull_face as cull_face_of, front_face as front_face_of, shade as shade_of, point_size as point_size_of, line_width as line_width_of, with_offset, hint as hint_of, in_pixels as pixels_of, culled_faces as culled_faces_of, is_counterclockwise};
+ghost use Rattle.gl_state.specs.Raster.{opening_raster, viewport as viewport_of, with_depth_range, cull_face as cull_face_of, front_face as front_face_of, shade as shade_of, point_size as point_size_of, line_width as line_width_of, with_offset, clip_plane as clip_plane_of, hint as hint_of, in_pixels as pixels_of, culled_faces as culled_faces_of, is_counterclockwise};
 
 use crate::unit_fx::UnitFx;
 use crate::viewport::{ViewportPlace, ViewportSide};
 use fx_arith::Fx;
 use gl_records::Size;
 use gl_tokens::{Face, GlError, HintMode, HintTarget, ShadeModel, Winding};
+
+/// The one plane that the user clips at: CLIP_PLANE0.
+const CLIP_PLANE0: u32 = 0x3000;
 
 /// The viewport, and how primitives are made into pixels (OpenGL ES 1.1.12, 2.10.1, 2.12 and 3.3 to 3.5).
 #[derive(Clone, Copy, Debug, PartialEq, Eq)]
@@ -30,6 +33,8 @@ pub struct Raster {
     /// Of polygon offset.
     pub offset_factor: Fx,
     pub offset_units: Fx,
+    /// The plane that the user clips at, in eye coordinates.
+    pub plane: [Fx; 4],
 }
 
 impl Raster {
@@ -52,6 +57,7 @@ impl Raster {
             line_width: Fx::ONE,
             offset_factor: Fx::ZERO,
             offset_units: Fx::ZERO,
+            plane: [Fx::ZERO; 4],
         }
     }
 
@@ -177,6 +183,18 @@ impl Raster {
     {
         self.offset_factor = factor;
         self.offset_units = units;
+    }
+
+    /// ClipPlanex, of a plane in eye coordinates: InvalidEnum where there is no such plane.
+    pub(crate) fn clip_plane(&mut self, code: u32, plane: [Fx; 4]) -> Option<GlError>
+        ensures run { (self.new, result) ≡ clip_plane_of self.old code plane }
+        ensures unchanged { OnSome result (self.new ≡ self.old) }
+    {
+        if code != CLIP_PLANE0 {
+            return Some(GlError::InvalidEnum);
+        }
+        self.plane = plane;
+        None
     }
 
     /// Hint: InvalidEnum where there is no such target, or no such mode.

@@ -3,8 +3,11 @@ ghost use Rattle.gl_records.specs.SetupRules.{AreRulesInRange};
 ghost use Rattle.gl_records.specs.Size.{IsSize};
 ghost use Rattle.gl_records.specs.Valid.{IsValidClear};
 ghost use Rattle.gl_state.specs.Current.{attribs};
-ghost use Rattle.gl_state.specs.Raster.{is_flat};
-ghost use Rattle.gl_state.specs.State.{opening_state, ran, followed, switch as switch_of, setup_rules as setup_rules_of, unit_number, clear_item as clear_item_of, aligns as aligns_of};
+ghost use Rattle.gl_state.specs.Raster.{clip_plane as clip_plane_of, is_flat};
+ghost use Rattle.gl_state.specs.Values.{vector as vector_of};
+ghost use Rattle.matrix_stacks.specs.Eye.{plane_to_eye as plane_in_eye};
+ghost use Rattle.matrix_stacks.specs.Stack.{top};
+ghost use Rattle.gl_state.specs.State.{opening_state, active_texture as active_texture_of, on_raster, ran, followed, switch as switch_of, setup_rules as setup_rules_of, unit_number, clear_item as clear_item_of, aligns as aligns_of};
 
 use crate::blending::Blending;
 use crate::clears::Clears;
@@ -16,8 +19,12 @@ use crate::lighting::Lighting;
 use crate::pixels::PixelStorage;
 use crate::raster::{Raster, culled_faces, in_pixels};
 use crate::switches::Switches;
-use gl_records::{Attribs, ClearItem, Rec, SetupRules, Size};
-use gl_tokens::{Cap, GlError, ShadeModel, TextureUnit};
+use crate::transforms::{matrix_mode, matrix_of};
+use crate::values::vector;
+use fx_arith::Mat4;
+use gl_records::{Attribs, ClearItem, Params, Rec, SetupRules, Size};
+use gl_tokens::{Cap, GlError, MatrixMode, ShadeModel, TextureUnit};
+use matrix_stacks::{Stacks, plane_to_eye};
 
 /// The greatest size of a point, and the greatest width of a line, in pixels.
 const GREATEST_POINT: u16 = 64;
@@ -35,6 +42,7 @@ pub struct State {
     pub tests: FragmentTests,
     pub blending: Blending,
     pub clears: Clears,
+    pub stacks: Stacks,
     pub environments: Environments,
     pub pixels: PixelStorage,
 }
@@ -54,6 +62,7 @@ impl State {
             tests: FragmentTests::new(size),
             blending: Blending::new(),
             clears: Clears::new(),
+            stacks: Stacks::new(),
             environments: Environments::new(),
             pixels: PixelStorage::new(),
         }
@@ -66,7 +75,7 @@ impl State {
         ensures unchanged { OnSome result (self.new ≡ self.old) }
     {
         match rec {
-            Rec::ActiveTexture { texture } => self.current.active_texture(*texture),
+            Rec::ActiveTexture { texture } => self.active_texture(*texture),
             Rec::Color4x {
                 red,
                 green,
@@ -98,6 +107,55 @@ impl State {
                 r,
                 q,
             } => self.current.multi_tex_coord(*texture, *s, *t, *r, *q),
+            Rec::MatrixMode { mode } => matrix_mode(&mut self.stacks, *mode),
+            Rec::LoadIdentity => {
+                self.stacks.load(&Mat4::identity());
+                None
+            }
+            Rec::LoadMatrixx { columns } => {
+                self.stacks.load(&matrix_of(columns));
+                None
+            }
+            Rec::MultMatrixx { columns } => {
+                self.stacks.mult(&matrix_of(columns));
+                None
+            }
+            Rec::PushMatrix => self.stacks.push(),
+            Rec::PopMatrix => self.stacks.pop(),
+            Rec::Rotatex { angle, x, y, z } => {
+                self.stacks.rotate(*angle, [*x, *y, *z]);
+                None
+            }
+            Rec::Scalex { x, y, z } => {
+                self.stacks.scale([*x, *y, *z]);
+                None
+            }
+            Rec::Translatex { x, y, z } => {
+                self.stacks.translate([*x, *y, *z]);
+                None
+            }
+            Rec::Frustumx {
+                left,
+                right,
+                bottom,
+                top,
+                near,
+                far,
+            } => {
+                self.stacks
+                    .frustum([*left, *right, *bottom, *top, *near, *far])
+            }
+            Rec::Orthox {
+                left,
+                right,
+                bottom,
+                top,
+                near,
+                far,
+            } => {
+                self.stacks
+                    .ortho([*left, *right, *bottom, *top, *near, *far])
+            }
             Rec::Viewport {
                 x,
                 y,
@@ -117,6 +175,7 @@ impl State {
                 self.raster.set_offset(*factor, *units);
                 None
             }
+            Rec::ClipPlanex { plane, equation } => self.clip_plane(*plane, equation),
             Rec::Hint { target, mode } => self.raster.hint(*target, *mode),
             Rec::Enable { capability } => self.switch(*capability, true),
             Rec::Disable { capability } => self.switch(*capability, false),
@@ -218,6 +277,32 @@ impl State {
         }
     }
 
+    /// ActiveTexture: InvalidEnum where there is no such unit. The texture stacks go by it too.
+    fn active_texture(&mut self, code: u32) -> Option<GlError>
+        ensures run { (self.new, result) ≡ active_texture_of self.old code }
+        ensures unchanged { OnSome result (self.new ≡ self.old) }
+    {
+        match TextureUnit::from_code(code) {
+            Some(unit) => {
+                self.current.unit = unit;
+                self.stacks.set_unit(number(unit));
+                None
+            }
+            None => Some(GlError::InvalidEnum),
+        }
+    }
+
+    /// ClipPlanex: InvalidEnum where there is no such plane. It is kept in eye coordinates, by the modelview matrix
+    /// of this moment.
+    fn clip_plane(&mut self, plane: u32, equation: &Params) -> Option<GlError>
+        ensures run { (self.new, result)
+            ≡ on_raster self.old (clip_plane_of self.old.raster plane (plane_in_eye (top self.old.stacks.modelview) (vector_of equation.now))) }
+        ensures unchanged { OnSome result (self.new ≡ self.old) }
+    {
+        let eye = plane_to_eye(self.stacks.top(MatrixMode::Modelview, 0), vector(equation));
+        self.raster.clip_plane(plane, eye)
+    }
+
     /// Enable or Disable: InvalidEnum where there is no such capability.
     fn switch(&mut self, code: u32, on: bool) -> Option<GlError>
         ensures run { (self.new, result) ≡ switch_of self.old code on }
@@ -292,10 +377,7 @@ impl State {
         ensures value { result ≡ unit_number self.now.current.unit }
         ensures to { result ≤ 1 }
     {
-        match self.current.unit {
-            TextureUnit::Texture0 => 0,
-            TextureUnit::Texture1 => 1,
-        }
+        number(self.current.unit)
     }
 
     /// The alignments of unpacking and of packing, in bytes: each 1, 2, 4 or 8.
@@ -312,5 +394,16 @@ impl State {
         ensures valid { IfSome result (λ clear. IsValidClear clear size) }
     {
         self.clears.item(mask, size)
+    }
+}
+
+/// The number of a texture unit.
+fn number(unit: TextureUnit) -> u8
+    ensures value { result ≡ unit_number unit }
+    ensures to { result ≤ 1 }
+{
+    match unit {
+        TextureUnit::Texture0 => 0,
+        TextureUnit::Texture1 => 1,
     }
 }

@@ -2,6 +2,7 @@
 use Rattle.std.specs.Prelude.{ℕ, ◌+◌, ℤ, Bool, not, ◌==◌, List, [], ◌∷◌, Option, option_map, slice_index, if◌then◌else◌}
 use Rattle.std.specs.Int.{w32, cast_signed, cast_unsigned, from_le_bytes, to_le_bytes}
 use Rattle.fx_arith.specs.declared.fx.Fx.{Fx}
+use Rattle.gl_records.specs.declared.params.Columns.{Columns}
 use Rattle.gl_records.specs.declared.params.Params.{Params}
 use Rattle.gl_records.specs.declared.rec.Rec.{Rec}
 use Rattle.trace_reader.specs.declared.shape.Shape.{Shape}
@@ -29,6 +30,10 @@ fixed n k = record { 0 = cast_signed w32 (slice_index n k) }
 -- the four words from k on as the numbers of a parameter
 abbrev pub params : List ℕ → ℕ → Params
 params n k = record { 0 = fixed n k; 1 = fixed n (k + 1); 2 = fixed n (k + 2); 3 = fixed n (k + 3) }
+
+-- the sixteen words as the columns of a matrix
+abbrev pub columns : List ℕ → Columns
+columns n = record { 0 = params n 0; 1 = params n 4; 2 = params n 8; 3 = params n 12 }
 
 -- word k as a truth value: each word but 0 is true
 abbrev pub truth : List ℕ → ℕ → Bool

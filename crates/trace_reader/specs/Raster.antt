@@ -1,9 +1,9 @@
 -- Commands of the way from primitives to pixels: the window, culling, shading, sizes and hints. Opcodes 0x38 to 0x42.
 use Rattle.std.specs.Prelude.{ℕ, ◌==◌, [], ◌∷◌, Option, Some, None, if◌then◌else◌}
 use Rattle.gl_records.specs.declared.rec.Rec.{Rec}
-use Rattle.gl_records.specs.declared.rec.Rec.TheVariants.{Viewport, DepthRangex, CullFace, FrontFace, ShadeModel, PointSizex, LineWidthx, PolygonOffsetx, Hint, SampleCoveragex}
+use Rattle.gl_records.specs.declared.rec.Rec.TheVariants.{Viewport, DepthRangex, CullFace, FrontFace, ShadeModel, PointSizex, LineWidthx, PolygonOffsetx, ClipPlanex, Hint, SampleCoveragex}
 use Rattle.trace_reader.specs.declared.shape.Shape.TheVariants.{Exactly}
-use Rattle.trace_reader.specs.Command.{Layout, word, signed, fixed, truth, Command, signed_bits, bits, truth_bits}
+use Rattle.trace_reader.specs.Command.{Layout, params, word, signed, fixed, truth, Command, signed_bits, bits, truth_bits}
 
 abbrev pub raster_row : ℕ → Option Layout
 raster_row opcode =
@@ -15,6 +15,7 @@ raster_row opcode =
     if opcode == 0x3D then Some (Exactly 1, λ n. PointSizex (fixed n 0)) else
     if opcode == 0x3E then Some (Exactly 1, λ n. LineWidthx (fixed n 0)) else
     if opcode == 0x3F then Some (Exactly 2, λ n. PolygonOffsetx (fixed n 0) (fixed n 1)) else
+    if opcode == 0x40 then Some (Exactly 5, λ n. ClipPlanex (word n 0) (params n 1)) else
     if opcode == 0x41 then Some (Exactly 2, λ n. Hint (word n 0) (word n 1)) else
     if opcode == 0x42 then Some (Exactly 2, λ n. SampleCoveragex (fixed n 0) (truth n 1)) else None
 
@@ -29,6 +30,8 @@ raster_spelling (PointSizex size) = Some (record { opcode = 0x3D; words = bits s
 raster_spelling (LineWidthx width) = Some (record { opcode = 0x3E; words = bits width ∷ []; piece = [] })
 raster_spelling (PolygonOffsetx factor units) =
     Some (record { opcode = 0x3F; words = bits factor ∷ bits units ∷ []; piece = [] })
+raster_spelling (ClipPlanex plane equation) =
+    Some (record { opcode = 0x40; words = plane ∷ bits equation.0 ∷ bits equation.1 ∷ bits equation.2 ∷ bits equation.3 ∷ []; piece = [] })
 raster_spelling (Hint target mode) = Some (record { opcode = 0x41; words = target ∷ mode ∷ []; piece = [] })
 raster_spelling (SampleCoveragex value invert) =
     Some (record { opcode = 0x42; words = bits value ∷ truth_bits invert ∷ []; piece = [] })

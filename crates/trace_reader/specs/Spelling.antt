@@ -14,6 +14,7 @@ use Rattle.trace_reader.specs.Control.{control_spelling}
 use Rattle.trace_reader.specs.Current.{current_spelling}
 use Rattle.trace_reader.specs.Environments.{environments_spelling}
 use Rattle.trace_reader.specs.Lighting.{lighting_spelling}
+use Rattle.trace_reader.specs.Matrices.{matrices_spelling}
 use Rattle.trace_reader.specs.Pixels.{pixels_spelling}
 use Rattle.trace_reader.specs.Raster.{raster_spelling}
 use Rattle.trace_reader.specs.Shape.{words_of, allows}
@@ -28,6 +29,7 @@ spelling rec =
     unwrap_or (control_spelling rec) (
     unwrap_or (arrays_spelling rec) (
     unwrap_or (current_spelling rec) (
+    unwrap_or (matrices_spelling rec) (
     unwrap_or (raster_spelling rec) (
     unwrap_or (switches_spelling rec) (
     unwrap_or (lighting_spelling rec) (
@@ -35,7 +37,7 @@ spelling rec =
     unwrap_or (blending_spelling rec) (
     unwrap_or (clears_spelling rec) (
     unwrap_or (environments_spelling rec) (
-    unwrap_or (pixels_spelling rec) (record { opcode = 0; words = []; piece = [] })))))))))))
+    unwrap_or (pixels_spelling rec) (record { opcode = 0; words = []; piece = [] }))))))))))))
 
 -- a list of words of 32 bits
 abbrev pub AreWords : List ℕ → Type 0

@@ -10,6 +10,7 @@ use Rattle.trace_reader.specs.Control.{control_row}
 use Rattle.trace_reader.specs.Current.{current_row}
 use Rattle.trace_reader.specs.Environments.{environments_row}
 use Rattle.trace_reader.specs.Lighting.{lighting_row}
+use Rattle.trace_reader.specs.Matrices.{matrices_row}
 use Rattle.trace_reader.specs.Numbers.{words}
 use Rattle.trace_reader.specs.Pixels.{pixels_row}
 use Rattle.trace_reader.specs.Raster.{raster_row}
@@ -24,6 +25,7 @@ row opcode =
     if nat_lt opcode 0x18 then arrays_row opcode else
     if nat_lt opcode 0x1D then current_row opcode else
     if nat_lt opcode 0x20 then arrays_row opcode else
+    if nat_lt opcode 0x38 then matrices_row opcode else
     if nat_lt opcode 0x48 then raster_row opcode else
     if nat_lt opcode 0x50 then switches_row opcode else
     if nat_lt opcode 0x58 then lighting_row opcode else

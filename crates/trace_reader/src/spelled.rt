@@ -4,8 +4,8 @@ ghost use Rattle.trace_reader.specs.Spelling.{Gives, IsWritable, ReadsBack, spel
 ghost use Rattle.trace_reader.specs.Table.{piece_of as record_piece};
 
 use crate::table::{
-    arrays, blending, clears, control, current, environments, fragment_tests, lighting, piece_of,
-    pixels, raster, switches,
+    arrays, blending, clears, control, current, environments, fragment_tests, lighting, matrices,
+    piece_of, pixels, raster, switches,
 };
 use crate::words::Words;
 use gl_records::Rec;
@@ -94,6 +94,9 @@ pub fn spell(rec: &Rec) -> Spelled<'_>
         return spelled;
     }
     if let Some(spelled) = current::spelling(rec) {
+        return spelled;
+    }
+    if let Some(spelled) = matrices::spelling(rec) {
         return spelled;
     }
     if let Some(spelled) = raster::spelling(rec) {

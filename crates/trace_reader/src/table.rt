@@ -12,6 +12,7 @@ pub mod current;
 pub mod environments;
 pub mod fragment_tests;
 pub mod lighting;
+pub mod matrices;
 pub mod pixels;
 pub mod raster;
 pub mod switches;
@@ -34,6 +35,8 @@ pub fn row(alloc: Global, opcode: u16, n: &Words) -> Option<(Shape, Rec)>
         current::row(opcode, n)
     } else if opcode < 0x20 {
         arrays::row(alloc, opcode, n)
+    } else if opcode < 0x38 {
+        matrices::row(opcode, n)
     } else if opcode < 0x48 {
         raster::row(opcode, n)
     } else if opcode < 0x50 {

@@ -1,10 +1,10 @@
 //! The words of a payload as fields of a record, and the fields as words.
 ghost use Rattle.std.specs.Prelude.{◌≡◌, ◌≤◌, ◌<◌, ◌+◌, ◌==◌, [], ◌∷◌, not, slice_index, if◌then◌else◌};
 ghost use Rattle.std.specs.Int.{w32, cast_signed, cast_unsigned, from_le_bytes, to_le_bytes};
-ghost use Rattle.trace_reader.specs.Command.{params as params_of};
+ghost use Rattle.trace_reader.specs.Command.{columns as columns_of, params as params_of};
 
 use fx_arith::Fx;
-use gl_records::Params;
+use gl_records::{Columns, Params};
 
 /// The words that a payload begins with; a byte past its end is 0.
 pub type Words = [u32; 16];
@@ -34,6 +34,13 @@ pub fn params(n: &Words, place: usize) -> Params
         fixed(n[place + 2]),
         fixed(n[place + 3]),
     )
+}
+
+/// The sixteen words as the columns of a matrix.
+pub fn columns(n: &Words) -> Columns
+    ensures { result ≡ columns_of n.now }
+{
+    Columns(params(n, 0), params(n, 4), params(n, 8), params(n, 12))
 }
 
 /// A word as a truth value: each word but 0 is true.

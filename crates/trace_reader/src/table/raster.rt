@@ -7,7 +7,7 @@ ghost use Rattle.trace_reader.specs.Command.{with_words};
 
 use crate::shape::Shape;
 use crate::spelled::Spelled;
-use crate::words::{Words, fixed, fixed_word, signed, signed_word, truth, truth_word};
+use crate::words::{Words, fixed, fixed_word, params, signed, signed_word, truth, truth_word};
 use gl_records::Rec;
 
 /// The row of an opcode, as `row` of the whole table answers it.
@@ -42,6 +42,13 @@ pub fn row(opcode: u16, n: &Words) -> Option<(Shape, Rec)>
             Rec::PolygonOffsetx {
                 factor: fixed(n[0]),
                 units: fixed(n[1]),
+            },
+        )),
+        0x40 => Some((
+            Shape::Exactly(5),
+            Rec::ClipPlanex {
+                plane: n[0],
+                equation: params(n, 1),
             },
         )),
         0x41 => Some((
@@ -97,6 +104,17 @@ pub fn spelling(rec: &Rec) -> Option<Spelled<'_>>
             rec,
             0x3F,
             &[fixed_word(factor), fixed_word(units)],
+        )),
+        Rec::ClipPlanex { plane, equation } => Some(Spelled::new(
+            rec,
+            0x40,
+            &[
+                *plane,
+                fixed_word(&equation.0),
+                fixed_word(&equation.1),
+                fixed_word(&equation.2),
+                fixed_word(&equation.3),
+            ],
         )),
         Rec::Hint { target, mode } => Some(Spelled::new(rec, 0x41, &[*target, *mode])),
         Rec::SampleCoveragex { value, invert } => Some(Spelled::new(
