@@ -2,7 +2,7 @@ ghost use Rattle.std.specs.Prelude.{◌≡◌, ◌≤ℤ◌};
 ghost use Rattle.fx_arith.specs.Number.{clamp as clamped, nearest_fixed};
 
 /// A GLfixed: the number of 1/65536 that it holds (OpenGL ES 1.1.12, 2.3).
-#[derive(Clone, Copy, Debug, PartialEq, Eq)]
+#[derive(Clone, Copy, Debug, Default, PartialEq, Eq)]
 pub struct Fx(pub i32);
 
 impl Fx {

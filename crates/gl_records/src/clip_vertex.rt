@@ -1,7 +1,7 @@
 use fx_arith::Fx;
 
 /// A vertex in clip coordinates (OpenGL ES 1.1.12, 2.10). The vertex stage makes it, and set-up uses it up.
-#[derive(Clone, Copy, Debug, PartialEq, Eq)]
+#[derive(Clone, Copy, Debug, Default, PartialEq, Eq)]
 pub struct ClipVertex {
     /// x y z w.
     pub clip: [Fx; 4],

@@ -1,0 +1,5 @@
+pub mod Betweens
+pub mod Fronts
+pub mod Polygons
+pub mod Rounds
+pub mod Segments

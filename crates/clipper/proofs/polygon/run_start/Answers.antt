@@ -1,0 +1,11 @@
+use Rattle.clipper.proofs.Rounds.{run-is, comes_in-is, IsRun}
+use Rattle.std.proofs.Common.{◌≡◌, ◌-◌, arith, length}
+use Rattle.clipper.proofs.polygon.run_start.Goals as goal
+
+pub returns-clause-value : goal.returns-clause-value
+returns-clause-value c =
+    run-is c.args.plane c.args.corners.now c.loop-i.start record {
+      within = omega arith;
+      inner = λ k p q. c.loop-i.invariant.inner k p (omega arith);
+      before = c.loop-i.invariant.before;
+    }

@@ -1,0 +1,4 @@
+pub mod Crossing
+pub mod Planes
+pub mod Polygon
+pub mod Segment
