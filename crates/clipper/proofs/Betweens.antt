@@ -1,5 +1,5 @@
 -- What lies between: the formula of a crossing never leaves the range of its two ends.
-use Rattle.std.proofs.Common.{◌≡◌, ℕ, ◌<◌, suc, ap, sym, ◌∙◌, arith}
+use Rattle.std.proofs.Common.{◌≡◌, ℕ, ◌<◌, ap, sym, ◌∙◌, arith}
 use Rattle.std.specs.Prelude.{ℤ, pos, negsuc, ◌≤ℤ◌, ◌<ℤ◌, ◌+ℤ◌, ◌-ℤ◌, ◌*ℤ◌}
 use Rattle.std.specs.Int.RustNames.{FitsSigned}
 use Rattle.std.proofs.lemmas.Int.{ints, by_lt_z}
@@ -7,7 +7,7 @@ use Rattle.std.proofs.Math.IntN.{*ℤ_comm}
 use mir.Syntax.{w32, w64}
 use mir.Val.{to_z, of_z}
 use Rattle.fx_arith.specs.Number.{floor_div, floor_quotient}
-use Rattle.fx_arith.proofs.Products.{*ℤ-≤, *ℤ-opposite, *ℤ--ℤ}
+use Rattle.fx_arith.proofs.Products.{*ℤ-≤, *ℤ-opposite}
 use Rattle.fx_arith.proofs.Floors.{floor_div-≤, floor_div-multiple}
 use Rattle.clipper.specs.Crossing.{between}
 
@@ -20,16 +20,18 @@ quotient-high q z d some h = omega (arith, ints, floor_div-≤ z (q *ℤ pos d) 
 
 -- how far it is from a, in a difference c of the ends, as whole numbers: none or all of c, or in between
 steps_up : (c f : ℤ) (d : ℕ) → 0 < d → pos 0 ≤ℤ f → f ≤ℤ pos d → pos 0 ≤ℤ c → (pos 0 ≤ℤ floor_div (c *ℤ f) d) × (floor_div (c *ℤ f) d ≤ℤ c)
-steps_up c f d some from to up =
-    (quotient-low (pos 0) (c *ℤ f) d some (omega (arith, ints, *ℤ-≤ c (pos 0) f up from)),
-    quotient-high c (c *ℤ f) d some (*ℤ-≤ c f (pos d) up to))
+steps_up c f d some from to up = (
+  quotient-low (pos 0) (c *ℤ f) d some (omega (arith, ints, *ℤ-≤ c (pos 0) f up from)),
+  quotient-high c (c *ℤ f) d some (*ℤ-≤ c f (pos d) up to),
+)
 
 steps_down : (c f : ℤ) (d : ℕ) → 0 < d → pos 0 ≤ℤ f → f ≤ℤ pos d → c ≤ℤ pos 0 → (c ≤ℤ floor_div (c *ℤ f) d) × (floor_div (c *ℤ f) d ≤ℤ pos 0)
 steps_down c f d some from to down =
     let back : pos 0 ≤ℤ (pos 0 -ℤ c) = omega (arith, ints) in
-    let turn : (e : ℤ) → (pos 0 -ℤ c) *ℤ e ≡ pos 0 -ℤ c *ℤ e = λ e. *ℤ_comm (pos 0 -ℤ c) e ∙ *ℤ-opposite e c ∙ ap (λ p. pos 0 -ℤ p) (*ℤ_comm e c) in
-    (quotient-low c (c *ℤ f) d some (omega (arith, ints, *ℤ-≤ (pos 0 -ℤ c) f (pos d) back to, turn f, turn (pos d))),
-    quotient-high (pos 0) (c *ℤ f) d some (omega (arith, ints, *ℤ-≤ (pos 0 -ℤ c) (pos 0) f back from, turn f, turn (pos 0))))
+    let turn : (e : ℤ) → (pos 0 -ℤ c) *ℤ e ≡ pos 0 -ℤ c *ℤ e = λ e. *ℤ_comm (pos 0 -ℤ c) e ∙ *ℤ-opposite e c ∙ ap (λ p. pos 0 -ℤ p) (*ℤ_comm e c) in (
+      quotient-low c (c *ℤ f) d some (omega (arith, ints, *ℤ-≤ (pos 0 -ℤ c) f (pos d) back to, turn f, turn (pos d))),
+      quotient-high (pos 0) (c *ℤ f) d some (omega (arith, ints, *ℤ-≤ (pos 0 -ℤ c) (pos 0) f back from, turn f, turn (pos 0))),
+    )
 
 -- the same at a divisor that is a whole number
 up : (c f d : ℤ) → pos 0 ≤ℤ f → f ≤ℤ d → pos 0 <ℤ d → pos 0 ≤ℤ c → (pos 0 ≤ℤ floor_quotient (c *ℤ f) d) × (floor_quotient (c *ℤ f) d ≤ℤ c)

@@ -1,7 +1,7 @@
 -- What the planes leave has w of at least one raw unit: the first makes it so, and each later one keeps it.
-use Rattle.std.proofs.Common.{◌≡◌, ◌<◌, zero, suc, sym, ◌∙◌, arith}
-use Rattle.std.specs.Prelude.{ℤ, pos, negsuc, ◌≤ℤ◌, ◌<ℤ◌, ◌-ℤ◌, Bool, true, false, not, int_lt, List, [], ◌∷◌}
-use Rattle.std.specs.List.{All, list_all}
+use Rattle.std.proofs.Common.{◌≡◌, arith}
+use Rattle.std.specs.Prelude.{ℤ, pos, ◌≤ℤ◌, ◌<ℤ◌, ◌-ℤ◌, Bool, true, false, not, int_lt}
+use Rattle.std.specs.List.{list_all}
 use Rattle.std.proofs.lemmas.Bool.{and_parts}
 use Rattle.std.proofs.lemmas.Int.{ints}
 use Rattle.gl_records.specs.declared.clip_vertex.ClipVertex.{ClipVertex}

@@ -1,8 +1,7 @@
 -- Polygons: how many corners the planes leave, and that each is in front.
-use Rattle.std.proofs.Common.{◌≡◌, ◌<◌, ◌≤◌, ◌+◌, ◌-◌, ℕ, zero, suc, refl, sym, ap, subst, ◌∙◌, inl, inr, length, take, drop, length-append, length-drop, arith}
-use Rattle.std.specs.Prelude.{Bool, true, false, not, List, [], ◌∷◌, ◌++◌, fold, if◌then◌else◌}
+use Rattle.std.proofs.Common.{◌≡◌, ◌<◌, ◌≤◌, ◌+◌, ◌-◌, ℕ, refl, sym, subst, length, take, drop, length-append, length-drop, arith}
+use Rattle.std.specs.Prelude.{Bool, true, false, not, List, [], ◌∷◌, if◌then◌else◌}
 use Rattle.std.specs.List.{All, list_all, list_any}
-use Rattle.std.proofs.lemmas.Bool.{cases_Bool}
 use Rattle.std.proofs.lemmas.List.Elements.{All-nil, All-cons, All-append, All-drop, All-take, All-from_get_or}
 use Rattle.std.proofs.lemmas.List.Sums.{AllPass-from_list_all}
 use Rattle.std.proofs.lemmas.List.{get_or-drop}
@@ -12,7 +11,7 @@ use Rattle.clipper.specs.declared.planes.Plane.{Plane}
 use Rattle.clipper.specs.declared.planes.Plane.TheVariants.{LeastW}
 use Rattle.clipper.specs.Crossing.{crossing}
 use Rattle.clipper.specs.Planes.{is_inside, planes, IsInFront}
-use Rattle.clipper.specs.Polygon.{first_out, turned, run_length, cut, clipped, clipped_polygon, IsMixed, IsTurned, ComesInAt}
+use Rattle.clipper.specs.Polygon.{first_out, turned, run_length, cut, clipped, clipped_polygon, IsMixed, IsTurned}
 use Rattle.clipper.proofs.Fronts.{inside-least_w, crossing-least_w, crossing-in_front}
 use Rattle.clipper.proofs.Rounds.{out-found, length-turned, turned-is, comes_in-is, run-found}
 
@@ -44,10 +43,10 @@ length-clipped corners plane =
     by_cases P (list_all (is_inside plane) corners) (list_any (is_inside plane) corners) corners plane
     (λ _. (omega arith, λ h. h)) (omega arith, λ _ some. absurd (omega (arith, some)))
     (λ p q.
-      let mixed : IsMixed plane corners = record { some_outside = p; some_inside = q } in
-      let long = length-turned corners (first_out plane corners) (out-found plane corners mixed) in
-      let lengths = length-cut plane (turned (first_out plane corners) corners) (turned-is plane corners mixed) in
-      (omega (arith, long, lengths.1), λ _ _. lengths.0))
+    let mixed : IsMixed plane corners = record { some_outside = p; some_inside = q } in
+    let long = length-turned corners (first_out plane corners) (out-found plane corners mixed) in
+    let lengths = length-cut plane (turned (first_out plane corners) corners) (turned-is plane corners mixed) in
+    (omega (arith, long, lengths.1), λ _ _. lengths.0))
 
 pub length-polygon : (corners : List ClipVertex) (rest : List Plane) → (0 < length corners → 3 ≤ length corners)
     → 0 < length (clipped_polygon corners rest) → 3 ≤ length (clipped_polygon corners rest)
@@ -56,8 +55,8 @@ length-polygon corners (plane ∷ rest) h = length-polygon (clipped corners plan
 
 -- ---- w, where a plane keeps and makes only corners in front of corners that are so and so
 module _ (P : ClipVertex → Type 0) (plane : Plane)
-  (kept : (v : ClipVertex) → P v → is_inside plane v ≡ true → IsInFront v)
-  (made : (a b : ClipVertex) → P a → P b → is_inside plane a ≡ true → is_inside plane b ≡ false → IsInFront (crossing plane a b)) where
+    (kept : (v : ClipVertex) → P v → is_inside plane v ≡ true → IsInFront v)
+    (made : (a b : ClipVertex) → P a → P b → is_inside plane a ≡ true → is_inside plane b ≡ false → IsInFront (crossing plane a b)) where
   cut-fronts : (t : List ClipVertex) → IsTurned plane t → All P t → All IsInFront (cut plane t)
   unfolding cut
   cut-fronts t turn all =
@@ -82,10 +81,10 @@ module _ (P : ClipVertex → Type 0) (plane : Plane)
       (λ p k d h. kept _ (all k d h) (AllPass-from_list_all (is_inside plane) corners p k d h))
       (All-nil IsInFront)
       (λ p q.
-        let i = first_out plane corners in
-        let mixed : IsMixed plane corners = record { some_outside = p; some_inside = q } in
-        cut-fronts (turned i corners) (turned-is plane corners mixed)
-        (All-append P (drop (i + 1) corners) (take (i + 1) corners) (All-drop P (i + 1) corners all) (All-take P (i + 1) corners all)))
+      let i = first_out plane corners in
+      let mixed : IsMixed plane corners = record { some_outside = p; some_inside = q } in
+      cut-fronts (turned i corners) (turned-is plane corners mixed)
+      (All-append P (drop (i + 1) corners) (take (i + 1) corners) (All-drop P (i + 1) corners all) (All-take P (i + 1) corners all)))
 
 -- the plane that bounds w
 first-fronts : (corners : List ClipVertex) → All IsInFront (clipped corners LeastW)

@@ -1,8 +1,8 @@
 -- Corners in a ring: a polygon that is neither inside nor outside goes out at some corner, and read from there it
 -- begins outside and ends with a run of inside corners.
-use Rattle.std.proofs.Common.{◌≡◌, ◌<◌, ◌≤◌, ◌+◌, ◌-◌, ◌*◌, ◌%◌, ℕ, zero, suc, refl, sym, ap, subst, ◌∙◌, inl, inr, List, [], ◌∷◌, ◌++◌, length, take, drop, get_or, true≢false, length-append, length-take, length-drop, arith}
+use Rattle.std.proofs.Common.{◌≡◌, ◌<◌, ◌≤◌, ◌+◌, ◌-◌, ◌%◌, ℕ, zero, suc, refl, sym, ap, subst, ◌∙◌, inl, inr, List, length, take, drop, get_or, true≢false, length-append, length-take, length-drop, arith}
 use Rattle.std.specs.Prelude.{Bool, true, false, not, ◌&&◌}
-use Rattle.std.specs.List.{list_all, list_any, position_or_len, range_with_len}
+use Rattle.std.specs.List.{list_all, range_with_len}
 use Rattle.std.proofs.lemmas.Bool.{cases_lt, cases_Bool}
 use Rattle.std.proofs.lemmas.List.{get_or_append_left, get_or-append_right, get_or-take, get_or-drop, get_or_default}
 use Rattle.std.proofs.lemmas.List.Folds.{Any-from_list_any}
@@ -42,10 +42,10 @@ pub turned-first : (xs : List ClipVertex) (i : ℕ) → i < length xs → vertex
 turned-first xs i h =
     let front : length (drop (i + 1) xs) ≡ length xs - (i + 1) = length-drop (i + 1) xs in
     elim (cases_lt (i + 1) (length xs)) [
-      inl below ↦ get_or_append_left (drop (i + 1) xs) (take (i + 1) xs) no_vertex 0 (omega arith)
-      ∙ get_or-drop (i + 1) xs 0 no_vertex ∙ ap (vertex xs) (omega arith) ∙ sym (corner-below xs (i + 1) below)
-    | inr above ↦ get_or-append_right (drop (i + 1) xs) (take (i + 1) xs) 0 0 no_vertex (omega arith) (omega arith)
-      ∙ get_or-take (i + 1) xs 0 no_vertex (omega arith) ∙ sym (corner-round xs i (omega arith))
+      | inl below ↦ get_or_append_left (drop (i + 1) xs) (take (i + 1) xs) no_vertex 0 (omega arith)
+          ∙ get_or-drop (i + 1) xs 0 no_vertex ∙ ap (vertex xs) (omega arith) ∙ sym (corner-below xs (i + 1) below)
+      | inr above ↦ get_or-append_right (drop (i + 1) xs) (take (i + 1) xs) 0 0 no_vertex (omega arith) (omega arith)
+          ∙ get_or-take (i + 1) xs 0 no_vertex (omega arith) ∙ sym (corner-round xs i (omega arith))
     ]
 
 -- ---- where it goes out
@@ -102,9 +102,9 @@ out-found plane xs mixed =
     let n = length xs in
     let out = goes_out plane xs in
     elim (cases_lt (first_out plane xs) n) [
-      inl below ↦ below
-    | inr above ↦ absurd (some-out plane xs mixed (λ k h.
-      ap out (sym (range_at n k h)) ∙ fails_before_first out (range_with_len 0 n) k 0 (omega (arith, above))))
+      | inl below ↦ below
+      | inr above ↦ absurd (some-out plane xs mixed (λ k h.
+          ap out (sym (range_at n k h)) ∙ fails_before_first out (range_with_len 0 n) k 0 (omega (arith, above))))
     ]
 
 pub first-is : (plane : Plane) (xs : List ClipVertex) (i : ℕ) → i < length xs → ((k : ℕ) → k < i → goes_out plane xs k ≡ false) → goes_out plane xs i ≡ true
@@ -137,7 +137,7 @@ turned-is plane xs mixed =
       some = omega (arith, long, within);
       first = ap (is_inside plane) (turned-first xs i within) ∙ parts.1;
       last = ap (λ k. is_inside plane (vertex (turned i xs) (k - 1))) long ∙ ap (is_inside plane) (turned-last xs i within)
-        ∙ ap (is_inside plane) (sym (corner-below xs i within)) ∙ parts.0;
+          ∙ ap (is_inside plane) (sym (corner-below xs i within)) ∙ parts.0;
     }
 
 -- ---- the run of inside corners at the end, from corner s on
@@ -157,12 +157,17 @@ run_below plane t zero h = (0, omega arith, (λ k p q. absurd (omega arith)), (�
 run_below plane t (suc n) h =
     let so_far = run_below plane t n (omega arith) in
     elim (cases_Bool (is_inside plane (vertex t n))) [
-      inl inside ↦ (so_far.0, omega (arith, so_far.1), (λ k p q.
-        elim (cases_lt k n) [
-          inl below ↦ so_far.2 k p below
-        | inr above ↦ ap (λ i. is_inside plane (vertex t i)) (omega arith) ∙ inside
-        ]), so_far.3)
-    | inr outside ↦ (suc n, omega arith, (λ k p q. absurd (omega arith)), (λ _. ap (λ i. is_inside plane (vertex t i)) (omega arith) ∙ outside))
+      | inl inside ↦ (
+        so_far.0,
+        omega (arith, so_far.1),
+        (λ k p q.
+            elim (cases_lt k n) [
+              | inl below ↦ so_far.2 k p below
+              | inr above ↦ ap (λ i. is_inside plane (vertex t i)) (omega arith) ∙ inside
+            ]),
+        so_far.3,
+      )
+      | inr outside ↦ (suc n, omega arith, (λ k p q. absurd (omega arith)), (λ _. ap (λ i. is_inside plane (vertex t i)) (omega arith) ∙ outside))
     ]
 
 pub run-found : (plane : Plane) (t : List ClipVertex) → IsRun plane t (length t - run_length plane t)
@@ -175,14 +180,14 @@ run-found plane t =
 comes_in_from : (plane : Plane) (t : List ClipVertex) (s : ℕ) → IsTurned plane t → IsRun plane t s → ComesInAt plane t s
 comes_in_from plane t s turn run =
     let some_before : 0 < s = elim (cases_lt 0 s) [
-      inl some ↦ some
-    | inr none ↦ absurd (true≢false (sym (run.inner 0 none turn.some) ∙ turn.first))
+      | inl some ↦ some
+      | inr none ↦ absurd (true≢false (sym (run.inner 0 none turn.some) ∙ turn.first))
     ] in
     let some_left : s < length t = elim (cases_lt s (length t)) [
-      inl some ↦ some
-    | inr none ↦
-      let end : s ≡ length t = omega (arith, none, run.within) in
-      absurd (true≢false (sym turn.last ∙ ap (λ k. is_inside plane (vertex t (k - 1))) (sym end) ∙ run.before some_before))
+      | inl some ↦ some
+      | inr none ↦
+          let end : s ≡ length t = omega (arith, none, run.within) in
+          absurd (true≢false (sym turn.last ∙ ap (λ k. is_inside plane (vertex t (k - 1))) (sym end) ∙ run.before some_before))
     ] in
     record { some_before = some_before; some_left = some_left; inside = run.inner s (omega arith) some_left; outside = run.before some_before }
 

@@ -1,5 +1,5 @@
 -- Segments: what the planes leave has two ends, and both are in front.
-use Rattle.std.proofs.Common.{◌≡◌, ◌<◌, ℕ, zero, suc, drop, refl, subst, sym, arith}
+use Rattle.std.proofs.Common.{◌≡◌, zero, suc, drop, refl, subst, sym, arith}
 use Rattle.std.specs.Prelude.{Bool, true, false, List, [], ◌∷◌, Option, Some, None, IfSome, option_and_then, fold, if◌then◌else◌}
 use Rattle.std.specs.List.{All}
 use Rattle.gl_records.specs.declared.clip_vertex.ClipVertex.{ClipVertex}

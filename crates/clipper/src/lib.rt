@@ -20,3 +20,6 @@ mod polygon;
 mod segment;
 
 pub use clip::{clip_line, clip_point, clip_triangle};
+
+#[cfg(test)]
+mod tests;

@@ -1,4 +1,4 @@
-use Rattle.std.proofs.Common.{◌≡◌, ◌<◌, ◌≤◌, ◌+◌, rules, arith, ap, sym, subst, ◌∙◌, get_or, length, List}
+use Rattle.std.proofs.Common.{◌≡◌, ◌<◌, ◌≤◌, rules, arith, ap, sym, subst, ◌∙◌, get_or, length, List}
 use Rattle.std.specs.List.{All}
 use Rattle.std.proofs.lemmas.List.Sums.{fold_more}
 use Rattle.gl_records.specs.declared.clip_vertex.ClipVertex.{ClipVertex}
@@ -15,7 +15,7 @@ loop-side-preserved c =
     let side = get_or sides i LeastW in
     record {
       done = c.clip_by.ensures ∙ ap (λ corners. clipped corners side) c.loop-side.invariant.done
-        ∙ sym (fold_more clipped c.args.v.now sides i LeastW c.loop-side-test.true);
+          ∙ sym (fold_more clipped c.args.v.now sides i LeastW c.loop-side-test.true);
       amount = omega (arith, ap length c.clip_by.ensures, (length-clipped c.loop-side.polygon.items side).0, c.loop-side.invariant.amount);
     }
 

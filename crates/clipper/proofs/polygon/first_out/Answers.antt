@@ -1,5 +1,4 @@
-use Rattle.std.proofs.Common.{◌≡◌, ◌<◌, ℕ, false, length, arith, rules, sym, ◌∙◌}
-use Rattle.clipper.specs.Polygon.{goes_out}
+use Rattle.std.proofs.Common.{arith, sym, ◌∙◌}
 use Rattle.clipper.proofs.Rounds.{first-is, some-out}
 use Rattle.clipper.proofs.polygon.first_out.Goals as goal
 

@@ -1,5 +1,5 @@
-use Rattle.clipper.proofs.Rounds.{run-is, comes_in-is, IsRun}
-use Rattle.std.proofs.Common.{◌≡◌, ◌-◌, arith, length}
+use Rattle.clipper.proofs.Rounds.{run-is}
+use Rattle.std.proofs.Common.{arith}
 use Rattle.clipper.proofs.polygon.run_start.Goals as goal
 
 pub returns-clause-value : goal.returns-clause-value
