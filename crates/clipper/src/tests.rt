@@ -168,6 +168,16 @@ fn triangles_across_planes(rt: HostRuntime) {
     );
 }
 
+/// Rounding can make a list go out of a plane twice: this one does at the fourth plane.
+#[test]
+fn two_ways_out(rt: HostRuntime) {
+    triangle(
+        &rt,
+        [[2, -3, 0, 2], [-4, 1, 0, 0], [-1, -2, -1, 2]],
+        &[[-1, -2, -1, 2]; 3],
+    );
+}
+
 #[test]
 fn the_user_plane(rt: HostRuntime) {
     let a = at_distance([0, 0, 0, 9], 6);
