@@ -10,7 +10,7 @@ use crate::segment::shortened;
 use arrayvec::ArrayVec;
 use gl_records::ClipVertex;
 
-/// Whether a point is inside of each plane, the user's among them where `plane` says so.
+/// Whether a point is inside of each plane, the user's among them where `plane` says so (OpenGL ES 1.1.12, 2.11).
 pub fn clip_point(v: &ClipVertex, plane: bool) -> bool
     ensures value { result ≡ list_all (λ side. is_inside side v.now) (planes_of plane) }
     ensures in_front { IsTrue result → IsInFront v.now }
@@ -23,8 +23,9 @@ pub fn clip_point(v: &ClipVertex, plane: bool) -> bool
     true
 }
 
-/// The part of a segment that is inside of each plane, the user's among them where `plane` says so, or none.
-/// Its ends are in their order.
+/// The part of a segment that is inside of each plane, the user's among them where `plane` says so, or none
+/// (OpenGL ES 1.1.12, 2.11; the order of the planes and the rounding are this project's profile). Its ends keep
+/// their order.
 pub fn clip_line(v: &[ClipVertex; 2], plane: bool) -> Option<[ClipVertex; 2]>
     ensures value { result ≡ clipped_segment v.now (planes_of plane) }
     ensures in_front { IfSome result (λ ends. All IsInFront ends) }
@@ -37,8 +38,9 @@ pub fn clip_line(v: &[ClipVertex; 2], plane: bool) -> Option<[ClipVertex; 2]>
 }
 
 /// The part of a triangle that is inside of each plane, the user's among them where `plane` says so: the corners
-/// of a polygon in their order, to be drawn as a fan, or none. Where a plane cuts, the list begins with the
-/// crossing at which the polygon comes in again.
+/// of a polygon in their order, to be drawn as a fan, or none (OpenGL ES 1.1.12, 2.11; the order of the planes and
+/// the rounding are this project's profile). Where a plane cuts, the list begins with the crossing at which the
+/// polygon comes in.
 pub fn clip_triangle(v: &[ClipVertex; 3], plane: bool) -> ArrayVec<ClipVertex, CORNERS>
     ensures value { result.items ≡ clipped_polygon v.now (planes_of plane) }
     ensures in_front { All IsInFront result.items }

@@ -7,7 +7,7 @@
 //! `specs/`, on whole numbers without bound, and each vertex in them can be divided by its w.
 //!
 //! ```text
-//! clip_point(&vertex, false) // true where the vertex is inside of the seven planes
+//! clip_point(&vertex, false) // true where the vertex is inside of the seven planes, the user's left out
 //! clip_line(&[a, b], false) // None, or Some: its two ends, in their order
 //! clip_triangle(&[a, b, c], true) // 0, or 3 to 11 corners of a polygon, whose fan is to be drawn
 //! ```
@@ -20,6 +20,7 @@ mod polygon;
 mod segment;
 
 pub use clip::{clip_line, clip_point, clip_triangle};
+pub use polygon::CORNERS;
 
 #[cfg(test)]
 mod tests;

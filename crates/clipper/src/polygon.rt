@@ -10,7 +10,7 @@ use arrayvec::ArrayVec;
 use gl_records::ClipVertex;
 
 /// As many corners as a triangle can have once each of the eight planes has cut it.
-pub(crate) const CORNERS: usize = 11;
+pub const CORNERS: usize = 11;
 
 /// Leaves of a polygon the part on the inner side of a plane.
 #[tactic(auto, unfolding(crate::specs::Polygon::clipped))]

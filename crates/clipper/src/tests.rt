@@ -1,4 +1,5 @@
 use super::*;
+use arrayvec::ArrayVec;
 use fx_arith::Fx;
 use gl_records::ClipVertex;
 use std::process::Abort;
@@ -189,7 +190,7 @@ fn the_user_plane(rt: HostRuntime) {
         &[[0, 4, 0, 9], [0, 0, 0, 9], [6, 0, 0, 9]],
     );
     assert_eq!(rt; clip_triangle(&[a, b, c], false).len(), 3);
-    let nine = clip_triangle(
+    let nine: ArrayVec<ClipVertex, 11> = clip_triangle(
         &[
             at_distance([-25, -31, 35, 14], 12),
             at_distance([6, 22, -38, 8], 0),
