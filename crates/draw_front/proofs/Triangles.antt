@@ -5,6 +5,7 @@ use Rattle.std.specs.List.{range_with_len}
 use Rattle.gl_records.specs.declared.prim.Primitive.{Primitive}
 use Rattle.gl_records.specs.declared.size.Size.{Size}
 use Rattle.gl_records.specs.Captured.{Captured, Draw}
+use Rattle.gl_state.specs.State.{setup_rules}
 use Rattle.draw_front.specs.Context.{Context}
 use Rattle.draw_front.specs.Draws.{triangle_of_corners, corners_at, triangle_items, items_of_triangles}
 
@@ -20,13 +21,13 @@ items-next size context first end k some =
 abbrev items_of : Option Primitive → List Captured
 items_of prim = map (λ (p : Primitive). Draw p) (option_to_list prim)
 
-pub items-drawn : (size : Size) (context : Context) (first end k : ℕ) (prim : Primitive) → k < end → triangle_of_corners size (corners_at context (first + 3 * k)) ≡ Some prim
+pub items-drawn : (size : Size) (context : Context) (first end k : ℕ) (prim : Primitive) → k < end → triangle_of_corners (setup_rules context.state) size (corners_at context (first + 3 * k)) ≡ Some prim
     → items_of_triangles size context first (range_with_len k (end - k)) ≡ Draw prim ∷ items_of_triangles size context first (range_with_len (k + 1) (end - (k + 1)))
 items-drawn size context first end k prim some is =
     items-next size context first end k some
     ∙ ap (λ (p : Option Primitive). items_of p ++ items_of_triangles size context first (range_with_len (k + 1) (end - (k + 1)))) is
 
-pub items-skipped : (size : Size) (context : Context) (first end k : ℕ) → k < end → triangle_of_corners size (corners_at context (first + 3 * k)) ≡ None
+pub items-skipped : (size : Size) (context : Context) (first end k : ℕ) → k < end → triangle_of_corners (setup_rules context.state) size (corners_at context (first + 3 * k)) ≡ None
     → items_of_triangles size context first (range_with_len k (end - k)) ≡ items_of_triangles size context first (range_with_len (k + 1) (end - (k + 1)))
 items-skipped size context first end k some is =
     items-next size context first end k some

@@ -1,7 +1,6 @@
 -- What a draw makes of the arrays: its error, and its triangles as items (OpenGL ES 1.1.12, 2.6.1 and 2.8).
 use Rattle.std.specs.Prelude.{ℕ, ℤ, pos, ◌+◌, ◌*◌, ◌/◌, Bool, true, false, ◌&&◌, ◌||◌, ◌==◌, List, [], ◌∷◌, map, Option, Some, None, option_to_list, if◌then◌else◌, int_lt, is_none, unsigned_abs}
 use Rattle.std.specs.List.{flat_map, range_with_len}
-use Rattle.fx_arith.specs.Number.{one, fixed}
 use Rattle.gl_records.specs.declared.clip_vertex.ClipVertex.{ClipVertex}
 use Rattle.gl_records.specs.declared.prim.PrimKind.TheVariants.{Triangle}
 use Rattle.gl_records.specs.declared.prim.Primitive.{Primitive}
@@ -10,6 +9,7 @@ use Rattle.gl_records.specs.declared.size.Size.{Size}
 use Rattle.gl_records.specs.Captured.{Captured, Draw}
 use Rattle.gl_records.specs.ClipVertex.{vertex}
 use Rattle.gl_state.specs.Current.{attribs}
+use Rattle.gl_state.specs.State.{setup_rules}
 use Rattle.gl_tokens.specs.declared.array_kind.ArrayKind.TheVariants.{Vertex}
 use Rattle.gl_tokens.specs.declared.gl_error.GlError.{GlError}
 use Rattle.gl_tokens.specs.declared.gl_error.GlError.TheVariants.{InvalidEnum, InvalidValue}
@@ -32,22 +32,9 @@ draw_error mode first count =
     if int_lt first (pos 0) then Some InvalidValue else
     if int_lt count (pos 0) || int_lt greatest_count count then Some InvalidValue else None
 
--- the state that set-up goes by, as it is before the first command: what commands set has no effect yet
-abbrev pub opening_rules : Size → SetupRules
-opening_rules size = record {
-  viewport = pos 0 ∷ pos 0 ∷ pos size.w ∷ pos size.h ∷ [];
-  range = fixed (pos 0) ∷ fixed one ∷ [];
-  front_ccw = true;
-  cull = None;
-  two_side = false;
-  offset = None;
-  point = 1;
-  line = 1;
-}
-
 -- vertex k of the arrays
 abbrev pub vertex_at : Context → ℕ → ClipVertex
-vertex_at context k = clip_vertex (fetch_of context.arrays context.regions (attribs context.state.current) k)
+vertex_at context k = clip_vertex context.state (fetch_of context.arrays context.regions (attribs context.state.current) k)
 
 -- the corners of the triangle that begins at vertex k
 abbrev pub corners_at : Context → ℕ → List ClipVertex
@@ -57,12 +44,12 @@ abbrev pub are_in_volume : List ClipVertex → Bool
 are_in_volume corners = is_in_volume (vertex corners 0) && is_in_volume (vertex corners 1) && is_in_volume (vertex corners 2)
 
 -- the triangle of three corners; none where a corner lies outside of the clip volume, since nothing is clipped yet
-abbrev pub triangle_of_corners : Size → List ClipVertex → Option Primitive
-triangle_of_corners size corners = if are_in_volume corners then setup_of (opening_rules size) Triangle corners size else None
+abbrev pub triangle_of_corners : SetupRules → Size → List ClipVertex → Option Primitive
+triangle_of_corners rules size corners = if are_in_volume corners then setup_of rules Triangle corners size else None
 
 -- the item of the triangle that begins at vertex k, or none
 abbrev pub triangle_items : Size → Context → ℕ → List Captured
-triangle_items size context k = map Draw (option_to_list (triangle_of_corners size (corners_at context k)))
+triangle_items size context k = map Draw (option_to_list (triangle_of_corners (setup_rules context.state) size (corners_at context k)))
 
 -- the items of a number of triangles, from vertex `first` on, three vertices each
 abbrev pub items_of_triangles : Size → Context → ℕ → List ℕ → List Captured

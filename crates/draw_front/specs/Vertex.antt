@@ -1,10 +1,13 @@
--- From a vertex's values to clip coordinates (OpenGL ES 1.1.12, 2.10 to 2.12): the matrices are the identity,
--- and lighting, fog and the clip plane are off.
+-- From a vertex's values to clip coordinates (OpenGL ES 1.1.12, 2.10 to 2.12): lighting, fog and the clip plane are
+-- off, and texture matrices change nothing.
 use Rattle.std.specs.Prelude.{ℤ, pos, ◌+ℤ◌, ◌-ℤ◌, Bool, ◌&&◌, List, [], ◌∷◌, map, int_le, slice_index_or}
 use Rattle.fx_arith.specs.Number.{one, component, fixed, in_unit}
 use Rattle.fx_arith.specs.declared.fx.Fx.{Fx}
 use Rattle.gl_records.specs.declared.attribs.Attribs.{Attribs}
 use Rattle.gl_records.specs.declared.clip_vertex.ClipVertex.{ClipVertex}
+use Rattle.gl_state.specs.declared.state.State.{State}
+use Rattle.matrix_stacks.specs.Product.{transformed}
+use Rattle.matrix_stacks.specs.Stack.{top}
 
 -- of the texture coordinates s t r q these are used
 abbrev pub stq : List Fx → List Fx
@@ -14,10 +17,17 @@ stq coordinates = slice_index_or coordinates 0 (fixed (pos 0)) ∷ slice_index_o
 abbrev pub shown : List Fx → List Fx
 shown color = map in_unit color
 
+-- a position in eye coordinates, and in clip coordinates
+abbrev pub eye_position : State → List Fx → List Fx
+eye_position s position = transformed (top s.stacks.modelview) position
+
+abbrev pub clip_position : State → List Fx → List Fx
+clip_position s position = transformed (top s.stacks.projection) (eye_position s position)
+
 -- both sides show the vertex's colour
-abbrev pub clip_vertex : Attribs → ClipVertex
-clip_vertex vertex = record {
-  clip = vertex.pos;
+abbrev pub clip_vertex : State → Attribs → ClipVertex
+clip_vertex s vertex = record {
+  clip = clip_position s vertex.pos;
   plane = fixed (pos 0);
   front = shown vertex.color;
   back = shown vertex.color;

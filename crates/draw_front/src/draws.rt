@@ -1,15 +1,15 @@
 //! Draws: triangles of the arrays, one after the other.
 ghost use Rattle.std.specs.Prelude.{◌≡◌, ◌+◌, ◌-◌, ◌*◌, ◌^◌, ◌<◌, ◌≤◌, ◌++◌, map, option_to_list, IsNone, IfSome};
 ghost use Rattle.std.specs.List.{range_with_len};
+ghost use Rattle.gl_records.specs.SetupRules.{AreRulesInRange};
 ghost use Rattle.gl_records.specs.Size.{IsSize};
 ghost use Rattle.gl_records.specs.Captured.{Draw};
 ghost use Rattle.gl_records.specs.Valid.{IsValid};
 ghost use Rattle.gl_state.specs.Current.{attribs};
-ghost use Rattle.draw_front.specs.Draws.{draw_error as draw_error_of, opening_rules as opening_rules_of, triangle_of_corners, corners_at, items_of_triangles, is_drawn as is_drawn_in};
+ghost use Rattle.draw_front.specs.Draws.{draw_error as draw_error_of, triangle_of_corners, corners_at, items_of_triangles, is_drawn as is_drawn_in};
 
 use crate::context::Context;
 use crate::vertex::{clip_vertex, is_in_volume};
-use fx_arith::Fx;
 use gl_records::{Attribs, ClipVertex, Prim, PrimKind, SetupRules, Size};
 use gl_tokens::{ArrayKind, GlError, Mode};
 use primitive_setup::setup;
@@ -60,7 +60,7 @@ pub fn next_triangle(
     ensures within { result.1 ≤ end }
     ensures valid { IfSome result.0 (λ prim. IsValid prim size) }
 {
-    let rules = opening_rules(size);
+    let rules = context.state.setup_rules();
     let current = context.state.current();
     for k in next..end {
         let corners = corners(context, &current, first + 3 * k);
@@ -77,15 +77,18 @@ fn corners(context: &Context, current: &Attribs, k: u32) -> [ClipVertex; 3]
     requires vertices { k + 2 < 2 ^ 32 }
     ensures { result ≡ corners_at context.now k }
 {
-    let vertex = |k| clip_vertex(&fetch(&context.arrays, &context.regions, current, k));
+    let vertex = |k| clip_vertex(
+        &context.state,
+        &fetch(&context.arrays, &context.regions, current, k),
+    );
     [vertex(k), vertex(k + 1), vertex(k + 2)]
 }
 
 /// The triangle of these corners, or none.
 pub fn triangle(rules: &SetupRules, size: Size, corners: &[ClipVertex; 3]) -> Option<Prim>
     requires sides { IsSize size }
-    requires rules { rules.now ≡ opening_rules_of size }
-    ensures value { result ≡ triangle_of_corners size corners.now }
+    requires rules { AreRulesInRange rules.now }
+    ensures value { result ≡ triangle_of_corners rules.now size corners.now }
     ensures valid { IfSome result (λ prim. IsValid prim size) }
 {
     let [a, b, c] = corners;
@@ -93,21 +96,5 @@ pub fn triangle(rules: &SetupRules, size: Size, corners: &[ClipVertex; 3]) -> Op
         setup(rules, PrimKind::Triangle, corners, size)
     } else {
         None
-    }
-}
-
-/// The state that set-up goes by, as it is before the first command.
-pub fn opening_rules(size: Size) -> SetupRules
-    ensures { result ≡ opening_rules_of size }
-{
-    SetupRules {
-        viewport: [0, 0, i32::from(size.w), i32::from(size.h)],
-        range: [Fx::ZERO, Fx::ONE],
-        front_ccw: true,
-        cull: None,
-        two_side: false,
-        offset: None,
-        point: 1,
-        line: 1,
     }
 }

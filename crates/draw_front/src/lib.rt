@@ -21,6 +21,6 @@ mod step;
 mod tests;
 mod vertex;
 
-pub use draws::{opening_rules, triangle};
+pub use draws::triangle;
 pub use front::Front;
 pub use step::Step;

@@ -4,16 +4,20 @@ ghost use Rattle.draw_front.specs.Vertex.{clip_vertex as clip_vertex_of, is_in_v
 
 use fx_arith::{Fx, in_unit};
 use gl_records::{Attribs, ClipVertex};
+use gl_state::State;
+use gl_tokens::MatrixMode;
+use matrix_stacks::transform;
 
-/// The vertex in clip coordinates (OpenGL ES 1.1.12, 2.10 to 2.12): the matrices are the identity, and
-/// lighting, fog and the clip plane are off.
-pub fn clip_vertex(vertex: &Attribs) -> ClipVertex
-    ensures { result ≡ clip_vertex_of vertex.now }
+/// The vertex in clip coordinates (OpenGL ES 1.1.12, 2.10 to 2.12): lighting, fog and the clip plane are off, and
+/// texture matrices change nothing.
+pub fn clip_vertex(state: &State, vertex: &Attribs) -> ClipVertex
+    ensures { result ≡ clip_vertex_of state.now vertex.now }
 {
+    let eye = transform(state.stacks.top(MatrixMode::Modelview, 0), vertex.pos);
     let color = shown(&vertex.color);
     let [first, second] = &vertex.tex;
     ClipVertex {
-        clip: vertex.pos,
+        clip: transform(state.stacks.top(MatrixMode::Projection, 0), eye),
         plane: Fx::ZERO,
         front: color,
         back: color,

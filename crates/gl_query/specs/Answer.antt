@@ -1,10 +1,11 @@
 -- What Get and IsEnabled answer of the state, each value as it is kept (OpenGL ES 1.1.12, 6.1 and 6.2).
-use Rattle.std.specs.Prelude.{ℕ, ℤ, pos, List, [], ◌∷◌, map, Option, Some, None, Result, Ok, Err}
+use Rattle.std.specs.Prelude.{ℕ, ℤ, pos, List, [], ◌∷◌, length, map, Option, Some, None, Result, Ok, Err}
 use Rattle.gl_records.specs.declared.rec.Rec.{Rec}
 use Rattle.gl_records.specs.declared.rec.Rec.TheVariants.{Get, IsEnabled}
 use Rattle.gl_state.specs.declared.state.State.{State}
 use Rattle.gl_state.specs.Current.{coordinates}
 use Rattle.gl_state.specs.Pixels.{bytes_of}
+use Rattle.gl_state.specs.State.{unit_number}
 use Rattle.gl_state.specs.Switches.{is_on}
 use Rattle.gl_tokens.specs.BlendFactor as blend_factor
 use Rattle.gl_tokens.specs.Cap as cap
@@ -20,10 +21,12 @@ use Rattle.gl_tokens.specs.TextureUnit as texture_unit
 use Rattle.gl_tokens.specs.Winding as winding
 use Rattle.gl_tokens.specs.declared.gl_error.GlError.{GlError}
 use Rattle.gl_tokens.specs.declared.gl_error.GlError.TheVariants.{InvalidEnum}
-use Rattle.gl_tokens.specs.declared.matrix_mode.MatrixMode.TheVariants.{Modelview}
+use Rattle.gl_tokens.specs.declared.matrix_mode.MatrixMode.TheVariants.{Modelview, Projection, Texture}
 use Rattle.gl_tokens.specs.declared.query.Query.{Query}
-use Rattle.gl_tokens.specs.declared.query.Query.TheVariants.{CurrentColor, CurrentNormal, CurrentTextureCoords, PointSize, LineWidth, CullFaceMode, FrontFace, ShadeModel, DepthRange, DepthWriteMask, DepthClearValue, DepthFunc, StencilClearValue, StencilFunc, StencilValueMask, StencilFail, StencilPassDepthFail, StencilPassDepthPass, StencilRef, StencilWriteMask, MatrixMode, Viewport, AlphaTestFunc, AlphaTestRef, BlendDst, BlendSrc, LogicOpMode, ScissorBox, ColorClearValue, ColorWriteMask, UnpackAlignment, PackAlignment, MaxLights, MaxClipPlanes, MaxTextureSize, MaxModelviewStackDepth, MaxProjectionStackDepth, MaxTextureStackDepth, MaxViewportDims, SubpixelBits, RedBits, GreenBits, BlueBits, AlphaBits, DepthBits, StencilBits, ActiveTexture, ClientActiveTexture, MaxTextureUnits}
+use Rattle.gl_tokens.specs.declared.query.Query.TheVariants.{CurrentColor, CurrentNormal, CurrentTextureCoords, PointSize, LineWidth, CullFaceMode, FrontFace, ShadeModel, DepthRange, DepthWriteMask, DepthClearValue, DepthFunc, StencilClearValue, StencilFunc, StencilValueMask, StencilFail, StencilPassDepthFail, StencilPassDepthPass, StencilRef, StencilWriteMask, MatrixMode, Viewport, ModelviewStackDepth, ProjectionStackDepth, TextureStackDepth, ModelviewMatrix, ProjectionMatrix, TextureMatrix, AlphaTestFunc, AlphaTestRef, BlendDst, BlendSrc, LogicOpMode, ScissorBox, ColorClearValue, ColorWriteMask, UnpackAlignment, PackAlignment, MaxLights, MaxClipPlanes, MaxTextureSize, MaxModelviewStackDepth, MaxProjectionStackDepth, MaxTextureStackDepth, MaxViewportDims, SubpixelBits, RedBits, GreenBits, BlueBits, AlphaBits, DepthBits, StencilBits, ActiveTexture, ClientActiveTexture, MaxTextureUnits}
 use Rattle.gl_tokens.specs.declared.texture_unit.TextureUnit.TheVariants.{Texture0}
+use Rattle.matrix_stacks.specs.Stack.{top}
+use Rattle.matrix_stacks.specs.Stacks.{stack_of}
 use Rattle.gl_query.specs.Values.{raw, raws, truth, one, code}
 
 -- current values; texture coordinates are those of the active unit. No command sets the client's active unit yet.
@@ -35,7 +38,18 @@ current s ActiveTexture = Some (code (texture_unit.code_of s.current.unit))
 current s ClientActiveTexture = Some (code (texture_unit.code_of Texture0))
 current s query = None
 
--- viewport and rasterisation. No command sets the matrix mode yet.
+-- matrices and how many each stack has; textures go by the active unit
+abbrev pub matrices : State → Query → Option (List ℤ)
+matrices s MatrixMode = Some (code (matrix_mode.code_of s.stacks.mode))
+matrices s ModelviewStackDepth = Some (code (length (stack_of s.stacks Modelview 0)))
+matrices s ProjectionStackDepth = Some (code (length (stack_of s.stacks Projection 0)))
+matrices s TextureStackDepth = Some (code (length (stack_of s.stacks Texture (unit_number s.current.unit))))
+matrices s ModelviewMatrix = Some (raws (top (stack_of s.stacks Modelview 0)).0)
+matrices s ProjectionMatrix = Some (raws (top (stack_of s.stacks Projection 0)).0)
+matrices s TextureMatrix = Some (raws (top (stack_of s.stacks Texture (unit_number s.current.unit))).0)
+matrices s query = None
+
+-- viewport and rasterisation
 abbrev pub raster : State → Query → Option (List ℤ)
 raster s Viewport = Some (s.raster.x ∷ s.raster.y ∷ s.raster.width ∷ s.raster.height ∷ [])
 raster s DepthRange = Some (raw s.raster.near ∷ raw s.raster.far ∷ [])
@@ -44,7 +58,6 @@ raster s FrontFace = Some (code (winding.code_of s.raster.front))
 raster s ShadeModel = Some (code (shade_model.code_of s.raster.shade_model))
 raster s PointSize = Some (one (raw s.raster.point_size))
 raster s LineWidth = Some (one (raw s.raster.line_width))
-raster s MatrixMode = Some (code (matrix_mode.code_of Modelview))
 raster s query = None
 
 -- tests of fragments
@@ -108,10 +121,11 @@ abbrev pub or : Option (List ℤ) → Option (List ℤ) → Option (List ℤ)
 or (Some values) later = Some values
 or None later = later
 
--- what a query answers; matrices, their depths and bound names are no queries yet
+-- what a query answers; bound names are no queries yet
 abbrev pub values_of : State → Query → Option (List ℤ)
 values_of s query =
-    or (current s query) (or (raster s query) (or (tests s query) (or (blending s query) (or (clears s query) (or (pixels s query) (limits query))))))
+    or (current s query) (or (matrices s query) (or (raster s query) (or (tests s query) (or (blending s query) (or (clears s query)
+    (or (pixels s query) (limits query)))))))
 
 -- Get: InvalidEnum where there is no such query. IsEnabled: InvalidEnum where there is no such capability.
 abbrev pub answer_of : State → Rec → Result (List ℤ) GlError

@@ -1,8 +1,10 @@
 ghost use Rattle.std.specs.Prelude.{◌≡◌};
-ghost use Rattle.gl_query.specs.Answer.{current as current_of, raster as raster_of, tests as tests_of, blending as blending_of, clears as clears_of, pixels as pixels_of, limits as limits_of, values_of, answer_of};
+ghost use Rattle.gl_query.specs.Answer.{current as current_of, matrices as matrices_of, raster as raster_of, tests as tests_of, blending as blending_of, clears as clears_of, pixels as pixels_of, limits as limits_of, values_of, answer_of};
 ghost use Rattle.gl_query.specs.Values.{items_of, answered};
 
-use crate::values::{Values, code, four, numbers, one, raws2, raws3, raws4, truth, truths};
+use crate::values::{
+    Values, code, depth, four, matrix, numbers, one, raws2, raws3, raws4, truth, truths,
+};
 use gl_records::Rec;
 use gl_state::State;
 use gl_tokens::{Cap, GlError, MatrixMode, Query, TextureUnit};
@@ -33,6 +35,9 @@ fn values(state: &State, query: Query) -> Option<Values>
     ensures { items_of result ≡ values_of state.now query }
 {
     if let Some(values) = current(state, query) {
+        return Some(values);
+    }
+    if let Some(values) = matrices(state, query) {
         return Some(values);
     }
     if let Some(values) = raster(state, query) {
@@ -67,6 +72,22 @@ fn current(state: &State, query: Query) -> Option<Values>
     }
 }
 
+fn matrices(state: &State, query: Query) -> Option<Values>
+    ensures { items_of result ≡ matrices_of state.now query }
+{
+    let (stacks, unit) = (&state.stacks, state.unit());
+    match query {
+        Query::MatrixMode => Some(code(stacks.mode().code())),
+        Query::ModelviewStackDepth => Some(depth(stacks.depth(MatrixMode::Modelview, 0))),
+        Query::ProjectionStackDepth => Some(depth(stacks.depth(MatrixMode::Projection, 0))),
+        Query::TextureStackDepth => Some(depth(stacks.depth(MatrixMode::Texture, unit))),
+        Query::ModelviewMatrix => Some(matrix(stacks.top(MatrixMode::Modelview, 0))),
+        Query::ProjectionMatrix => Some(matrix(stacks.top(MatrixMode::Projection, 0))),
+        Query::TextureMatrix => Some(matrix(stacks.top(MatrixMode::Texture, unit))),
+        _ => None,
+    }
+}
+
 fn raster(state: &State, query: Query) -> Option<Values>
     ensures { items_of result ≡ raster_of state.now query }
 {
@@ -84,7 +105,6 @@ fn raster(state: &State, query: Query) -> Option<Values>
         Query::ShadeModel => Some(code(raster.shade_model.code())),
         Query::PointSize => Some(one(raster.point_size.0)),
         Query::LineWidth => Some(one(raster.line_width.0)),
-        Query::MatrixMode => Some(code(MatrixMode::Modelview.code())),
         _ => None,
     }
 }

@@ -3,7 +3,7 @@ ghost use Rattle.std.specs.Prelude.{◌≡◌, ◌≤◌, [], ◌∷◌, length,
 ghost use Rattle.gl_query.specs.Values.{code as code_of, one as one_of, raws as raws_of, truth as truth_of};
 
 use arrayvec::ArrayVec;
-use fx_arith::Fx;
+use fx_arith::{Fx, Mat4};
 
 /// What a query answers: up to 16 numbers. A GLfixed is answered as its raw number, a truth value as 0 or 1.
 pub type Values = ArrayVec<i64, 16>;
@@ -61,6 +61,32 @@ pub(crate) fn raws4(list: [Fx; 4]) -> Values
 {
     let [a, b, c, d] = list;
     four(a.0, b.0, c.0, d.0)
+}
+
+/// How many matrices a stack has.
+pub(crate) fn depth(number: u8) -> Values
+    ensures { result.items ≡ code_of number }
+{
+    code(u32::from(number))
+}
+
+/// The raw numbers of a matrix, column by column.
+pub(crate) fn matrix(m: &Mat4) -> Values
+    ensures { result.items ≡ raws_of m.now.0 }
+{
+    raws(&m.0)
+}
+
+/// The raw numbers of GLfixed numbers, at most 16.
+fn raws(list: &[Fx]) -> Values
+    requires { length list.now ≤ 16 }
+    ensures { result.items ≡ raws_of list.now }
+{
+    let mut values = Values::new();
+    'numbers: for number in list {
+        values.push(i64::from(number.0));
+    }
+    values
 }
 
 /// A truth value.

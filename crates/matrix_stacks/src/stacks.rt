@@ -64,6 +64,13 @@ impl Stacks {
         self.mode = m;
     }
 
+    /// The mode.
+    pub fn mode(&self) -> MatrixMode
+        ensures { result ≡ self.now.mode }
+    {
+        self.mode
+    }
+
     /// The texture unit whose stack the commands act on while the mode is TEXTURE.
     pub fn set_unit(&mut self, unit: u8)
         requires { unit < 2 }

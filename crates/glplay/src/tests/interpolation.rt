@@ -1,11 +1,23 @@
 //! Colours between corners. The commands that there are give a draw one colour, so the triangle is put together
 //! here.
 
-use draw_front::{opening_rules, triangle};
+use draw_front::triangle;
 use fx_arith::Fx;
-use gl_records::{ClipVertex, Item, Size};
+use gl_records::{ClipVertex, Item, SetupRules, Size};
 use std::test::Fail;
 use whole_surface::Surface;
+
+/// The rules of a context before its first command, on 4 by 4 pixels.
+const RULES: SetupRules = SetupRules {
+    viewport: [0, 0, 4, 4],
+    range: [Fx::ZERO, Fx::ONE],
+    front_ccw: true,
+    cull: None,
+    two_side: false,
+    offset: None,
+    point: 1,
+    line: 1,
+};
 
 /// A corner without textures and fog.
 fn corner(clip: [i32; 4], color: [i32; 3]) -> ClipVertex {
@@ -71,7 +83,7 @@ fn colors_go_from_corner_to_corner(rt: HostRuntime) -> Result<(), Fail> {
             corner([one, -one, 0, one], [0, one, 0]),
             corner([-one, one, 0, one], [0, 0, one]),
         ];
-        if let Some(prim) = triangle(&opening_rules(size), size, &corners) {
+        if let Some(prim) = triangle(&RULES, size, &corners) {
             surface.draw(size, &Item::Draw(prim));
         }
         let mut covered = Vec::new(rt.alloc());

@@ -1,0 +1,45 @@
+-- A command of the state alone.
+use Rattle.std.proofs.Common.{◌≡◌, ◌∙◌, ℕ, ℤ, Option, Some, None, OnSome, refl, sym, ap}
+use Rattle.gl_records.specs.declared.bytes.Bytes.{Bytes}
+use Rattle.gl_records.specs.declared.rec.Rec.{Rec}
+use Rattle.gl_records.specs.declared.rec.Rec.TheVariants.{GetError, Get, IsEnabled, ClientBytes, VertexPointer, EnableClientState, DisableClientState, DrawArrays, Clear}
+use Rattle.gl_state.specs.declared.state.State.{State}
+use Rattle.gl_state.specs.State.{ran}
+use Rattle.gl_tokens.specs.declared.gl_error.GlError.{GlError}
+use Rattle.draw_front.specs.Call.{commanded, on_state}
+use Rattle.draw_front.specs.Context.{Context}
+
+-- the record is none of the commands that touch something else
+pub record IsOfState (rec : Rec) : Type 0 where
+  pub error : rec ≡ GetError → ⊥
+  pub get : (x : ℕ) → rec ≡ Get x → ⊥
+  pub enabled : (x : ℕ) → rec ≡ IsEnabled x → ⊥
+  pub bytes : (x : ℕ) (y : Bytes) → rec ≡ ClientBytes x y → ⊥
+  pub pointer : (a : ℤ) (b : ℕ) (c : ℤ) (d e : ℕ) → rec ≡ VertexPointer a b c d e → ⊥
+  pub enable : (x : ℕ) → rec ≡ EnableClientState x → ⊥
+  pub disable : (x : ℕ) → rec ≡ DisableClientState x → ⊥
+  pub draw : (x : ℕ) (y z : ℤ) → rec ≡ DrawArrays x y z → ⊥
+  pub clear : (x : ℕ) → rec ≡ Clear x → ⊥
+
+pub stated : (context : Context) (rec : Rec) → IsOfState rec → commanded context rec ≡ on_state context (ran context.state rec)
+stated context GetError of = absurd (of.error refl)
+stated context (Get x) of = absurd (of.get x refl)
+stated context (IsEnabled x) of = absurd (of.enabled x refl)
+stated context (ClientBytes x y) of = absurd (of.bytes x y refl)
+stated context (VertexPointer a b c d e) of = absurd (of.pointer a b c d e refl)
+stated context (EnableClientState x) of = absurd (of.enable x refl)
+stated context (DisableClientState x) of = absurd (of.disable x refl)
+stated context (DrawArrays x y z) of = absurd (of.draw x y z refl)
+stated context (Clear x) of = absurd (of.clear x refl)
+stated context _ of = refl
+
+pub stated-run : (before now next : Context) (rec : Rec) (state : State) (result : Option GlError) → IsOfState rec → before ≡ now
+    → next ≡ (let after : Context = record before { state = state } in after) → (state, result) ≡ ran before.state rec → (next, result) ≡ commanded now rec
+stated-run before now next rec state result of same is run =
+    ap (λ (n : Context). (n, result)) is ∙ ap (on_state before) run ∙ sym (stated before rec of) ∙ ap (λ (n : Context). commanded n rec) same
+
+pub stated-unchanged : (before now next : Context) (state : State) (result : Option GlError) → before ≡ now
+    → next ≡ (let after : Context = record before { state = state } in after) → OnSome result (state ≡ before.state) → OnSome result (next ≡ now)
+stated-unchanged before now next state None same is stays = tt
+stated-unchanged before now next state (Some error) same is stays =
+    is ∙ ap (λ (s : State). let after : Context = record before { state = s } in after) stays ∙ same

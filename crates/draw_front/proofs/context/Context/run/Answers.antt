@@ -1,0 +1,29 @@
+use Rattle.std.proofs.Common.{◌≡◌}
+use Rattle.draw_front.specs.Context.{Context}
+use Rattle.draw_front.proofs.Stated.{IsOfState, stated-run, stated-unchanged}
+use Rattle.draw_front.proofs.context.Context.run.Goals as goal
+use Rattle.draw_front.proofs.context.Context.run.Goals.{in-ClientBytes-3, in-End-3}
+
+pub returns-in_default : goal.returns-in_default
+returns-in_default c =
+    let now = c.args.self.now in
+    let next = c.match-rec-4.self in
+    let of : IsOfState c.args.rec = record {
+      error = c.in_default.not-GetError;
+      get = c.in_default.not-Get;
+      enabled = c.in_default.not-IsEnabled;
+      bytes = c.in_default.not-ClientBytes;
+      pointer = c.in_default.not-VertexPointer;
+      enable = c.in_default.not-EnableClientState;
+      disable = c.in_default.not-DisableClientState;
+      draw = c.in_default.not-DrawArrays;
+      clear = c.in_default.not-Clear;
+    } in
+    let inside = c.self.inside in
+    let before : Context = record { state = inside.state; flag = inside.flag; arrays = inside.arrays; regions = inside.regions } in
+    let is : next ≡ (let after : Context = record before { state = c.apply.new.self } in after) =
+    elim c.match-rec-4.branch [ in-ClientBytes-3 w ↦ w.self-is | in-End-3 w ↦ w.self-is ] in
+    record {
+      run = stated-run before now next c.args.rec c.apply.new.self c.apply.result of c.self.view_is is c.apply.ensures.run;
+      unchanged = stated-unchanged before now next c.apply.new.self c.apply.result c.self.view_is is c.apply.ensures.unchanged;
+    }
