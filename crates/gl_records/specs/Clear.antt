@@ -1,17 +1,8 @@
 -- What a Clear does to one pixel that its area holds (OpenGL ES 1.1.12, 4.2.3).
-use Rattle.std.specs.Prelude.{ℕ, Bool, false, List, [], ◌∷◌, Option, Some, None, if◌then◌else◌, slice_index, slice_index_or, bit_and, bit_or, bit_xor, unwrap_or}
+use Rattle.std.specs.Prelude.{ℕ, Bool, List, Option, Some, None, bit_and, bit_or, bit_xor, unwrap_or}
 use Rattle.gl_records.specs.declared.clear.ClearItem.{ClearItem}
 use Rattle.gl_records.specs.declared.pixel.Pixel.{Pixel}
-
--- component k of the clear colour where the colour mask lets it through, else the one that was there
-abbrev pub masked_component : List ℕ → List Bool → List ℕ → ℕ → ℕ
-masked_component color mask under k = if slice_index_or mask k false then slice_index color k else slice_index under k
-
--- R G B A
-abbrev pub masked_color : List ℕ → List Bool → List ℕ → List ℕ
-masked_color color mask under =
-    masked_component color mask under 0 ∷ masked_component color mask under 1
-    ∷ masked_component color mask under 2 ∷ masked_component color mask under 3 ∷ []
+use Rattle.gl_records.specs.ColorMask.{masked_color}
 
 abbrev pub color_after : Option (List ℕ × List Bool) → List ℕ → List ℕ
 color_after None under = under
