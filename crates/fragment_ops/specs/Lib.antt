@@ -1,1 +1,2 @@
 pub use Rattle.gl_records.specs.Clear
+pub use Rattle.gl_records.specs.Fragment

@@ -7,6 +7,18 @@
 //! ```
 #![tactic(auto)]
 
+mod alpha_test;
+mod blending;
 mod clear;
+mod color_mask;
+mod comparison;
+mod depth_test;
+mod fragment;
+mod logic_op;
+mod stencil_test;
 
 pub use clear::clear_step;
+pub use fragment::{blend, pixel_step, tests};
+
+#[cfg(test)]
+mod tables;
