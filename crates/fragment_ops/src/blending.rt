@@ -1,5 +1,6 @@
-ghost use Rattle.std.specs.Prelude.{◌≡◌, ◌-◌, [], ◌∷◌, slice_index};
+ghost use Rattle.std.specs.Prelude.{◌≡◌, ◌-◌, slice_index};
 ghost use Rattle.gl_records.specs.Blending.{factor as factor_of, blended_component, blended_color};
+ghost use Rattle.gl_records.specs.Color.{color_of};
 
 use gl_tokens::BlendFactor;
 
@@ -27,7 +28,7 @@ pub fn blended(
 
 /// What each component is multiplied by.
 fn factor(factor: BlendFactor, source: [u8; 4], destination: [u8; 4]) -> [u8; 4]
-    ensures { result ≡ factor_of factor source destination 0 ∷ factor_of factor source destination 1 ∷ factor_of factor source destination 2 ∷ factor_of factor source destination 3 ∷ [] }
+    ensures { result ≡ color_of (factor_of factor source destination) }
 {
     match factor {
         BlendFactor::Zero => [0; 4],
@@ -55,7 +56,7 @@ fn factor(factor: BlendFactor, source: [u8; 4], destination: [u8; 4]) -> [u8; 4]
 }
 
 fn one_minus(color: [u8; 4]) -> [u8; 4]
-    ensures { result ≡ (255 - slice_index color 0) ∷ (255 - slice_index color 1) ∷ (255 - slice_index color 2) ∷ (255 - slice_index color 3) ∷ [] }
+    ensures { result ≡ color_of (λ k. 255 - slice_index color k) }
 {
     [
         255 - color[0],

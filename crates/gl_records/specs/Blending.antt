@@ -1,18 +1,12 @@
 -- Blending (OpenGL ES 1.1.12, 4.1.7), on components of 0 to 255, which stand for 0 to 1.
-use Rattle.std.specs.Prelude.{ℕ, ◌+◌, ◌-◌, ◌*◌, ◌/◌, ◌==◌, List, [], ◌∷◌, if◌then◌else◌, min, slice_index}
+use Rattle.std.specs.Prelude.{ℕ, ◌+◌, ◌-◌, ◌*◌, ◌/◌, ◌==◌, List, if◌then◌else◌, min, slice_index}
 use Rattle.gl_tokens.specs.declared.blend_factor.BlendFactor.{BlendFactor}
 use Rattle.gl_tokens.specs.declared.blend_factor.BlendFactor.TheVariants.{Zero, One, SourceColor, OneMinusSourceColor, SourceAlpha, OneMinusSourceAlpha, DestinationAlpha, OneMinusDestinationAlpha, DestinationColor, OneMinusDestinationColor, SourceAlphaSaturate}
-
--- the component of a colour that is its alpha
-abbrev pub alpha_component : ℕ
-alpha_component = 3
-
-abbrev pub alpha : List ℕ → ℕ
-alpha color = slice_index color alpha_component
+use Rattle.gl_records.specs.Color.{alpha, alpha_place, color_of}
 
 -- the smaller of the source's alpha and of what the destination's lacks; 1 for alpha
 abbrev pub saturate : List ℕ → List ℕ → ℕ → ℕ
-saturate source destination k = if k == alpha_component then 255 else min (alpha source) (255 - alpha destination)
+saturate source destination k = if k == alpha_place then 255 else min (alpha source) (255 - alpha destination)
 
 -- what component k is multiplied by, of these two colours
 abbrev pub factor : BlendFactor → List ℕ → List ℕ → ℕ → ℕ
@@ -44,8 +38,5 @@ blended factors source destination k =
     (slice_index source k) (factor factors.0 source destination k)
     (slice_index destination k) (factor factors.1 source destination k)
 
--- R G B A
 abbrev pub blended_color : BlendFactor × BlendFactor → List ℕ → List ℕ → List ℕ
-blended_color factors source destination =
-    blended factors source destination 0 ∷ blended factors source destination 1
-    ∷ blended factors source destination 2 ∷ blended factors source destination 3 ∷ []
+blended_color factors source destination = color_of (blended factors source destination)

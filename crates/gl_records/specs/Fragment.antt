@@ -7,7 +7,8 @@ use Rattle.gl_records.specs.declared.frag.Frag.{Frag}
 use Rattle.gl_records.specs.declared.frag_state.FragState.{FragState}
 use Rattle.gl_records.specs.declared.pixel.Pixel.{Pixel}
 use Rattle.gl_records.specs.AlphaTest.{alpha_passes}
-use Rattle.gl_records.specs.Blending.{alpha, blended_color}
+use Rattle.gl_records.specs.Blending.{blended_color}
+use Rattle.gl_records.specs.Color.{alpha}
 use Rattle.gl_records.specs.ColorMask.{masked_color}
 use Rattle.gl_records.specs.DepthTest.{depth_passes, depth_after}
 use Rattle.gl_records.specs.LogicOp.{operated_color}

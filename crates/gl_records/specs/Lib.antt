@@ -4,6 +4,7 @@ pub mod Blending
 pub mod Captured
 pub mod Clear
 pub mod ClipVertex
+pub mod Color
 pub mod ColorMask
 pub mod Comparison
 pub mod Coverage

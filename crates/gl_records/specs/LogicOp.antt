@@ -1,7 +1,8 @@
 -- The logical operation (OpenGL ES 1.1.12, 4.1.9), on the bits of components.
-use Rattle.std.specs.Prelude.{ℕ, List, [], ◌∷◌, bit_and, bit_or, bit_xor, slice_index}
+use Rattle.std.specs.Prelude.{ℕ, List, bit_and, bit_or, bit_xor, slice_index}
 use Rattle.gl_tokens.specs.declared.logic_op.LogicOp.{LogicOp}
 use Rattle.gl_tokens.specs.declared.logic_op.LogicOp.TheVariants.{Clear, And, AndReverse, Copy, AndInverted, NoOp, Xor, Or, Nor, Equivalent, Invert, OrReverse, CopyInverted, OrInverted, Nand, Set}
+use Rattle.gl_records.specs.Color.{color_of}
 
 -- the other bits of a byte
 abbrev pub inverted : ℕ → ℕ
@@ -26,12 +27,6 @@ operated OrInverted source destination = bit_or (inverted source) destination
 operated Nand source destination = inverted (bit_and source destination)
 operated Set source destination = 255
 
--- component k of the colours
-abbrev pub operated_component : LogicOp → List ℕ → List ℕ → ℕ → ℕ
-operated_component operation source destination k = operated operation (slice_index source k) (slice_index destination k)
-
--- R G B A
+-- the same of each component
 abbrev pub operated_color : LogicOp → List ℕ → List ℕ → List ℕ
-operated_color operation source destination =
-    operated_component operation source destination 0 ∷ operated_component operation source destination 1
-    ∷ operated_component operation source destination 2 ∷ operated_component operation source destination 3 ∷ []
+operated_color operation source destination = color_of (λ k. operated operation (slice_index source k) (slice_index destination k))
