@@ -4,6 +4,7 @@ pub mod Current
 pub mod Environments
 pub mod ErrorFlag
 pub mod Fog
+pub mod FragState
 pub mod FragmentTests
 pub mod Lighting
 pub mod Pixels

@@ -1,8 +1,11 @@
 //! Commands of the subjects that no query answers, in tables: their errors, the ends of their ranges, and what is kept
-//! after an error.
+//! after an error; and what set-up and fragments are told of the state.
 use super::*;
 use fx_arith::Fx;
-use gl_records::{FogRule, Params, Rec, SetupRules, Size};
+use gl_records::{
+    Combine, Env, FogRule, FragState, Params, PixelBox, Rec, Sampler, SetupRules, Size,
+    StencilState, UnitState, VersionId,
+};
 use gl_tokens::*;
 use std::process::Abort;
 
@@ -302,4 +305,155 @@ fn environments_and_rows_of_pixels(rt: HostRuntime) {
         ],
     );
     assert_eq!(rt; state.aligns(), (1, 8));
+}
+
+const IMAGE: UnitImage = (
+    VersionId(7),
+    BaseFormat::Rgb,
+    Sampler {
+        mag: Filter::Linear,
+        min: Filter::Nearest,
+        wrap_s: Wrap::Repeat,
+        wrap_t: Wrap::ClampToEdge,
+    },
+);
+
+/// What happens to fragments where nothing is on.
+const ALL_OFF: FragState = FragState {
+    units: [None; 2],
+    fog: None,
+    scissor: None,
+    alpha: None,
+    stencil: None,
+    depth: None,
+    blend: None,
+    logic: None,
+    mask: [true; 4],
+};
+
+/// The texture unit of [`IMAGE`], with a constant colour and otherwise as it is before the first command.
+const UNIT: UnitState = UnitState {
+    version: VersionId(7),
+    format: BaseFormat::Rgb,
+    sampler: Sampler {
+        mag: Filter::Linear,
+        min: Filter::Nearest,
+        wrap_s: Wrap::Repeat,
+        wrap_t: Wrap::ClampToEdge,
+    },
+    env: Env {
+        mode: EnvMode::Modulate,
+        color: [128, 0, 255, 0],
+        rgb: Combine {
+            func: CombineFunc::Modulate,
+            sources: [
+                CombineSource::Texture,
+                CombineSource::Previous,
+                CombineSource::Constant,
+            ],
+            operands: [
+                CombineOperand::SourceColor,
+                CombineOperand::SourceColor,
+                CombineOperand::SourceAlpha,
+            ],
+            scale: 1,
+        },
+        alpha: Combine {
+            func: CombineFunc::Modulate,
+            sources: [
+                CombineSource::Texture,
+                CombineSource::Previous,
+                CombineSource::Constant,
+            ],
+            operands: [CombineOperand::SourceAlpha; 3],
+            scale: 1,
+        },
+    },
+};
+
+#[test]
+fn states_of_fragments(rt: HostRuntime) {
+    let mut state = State::new(SIZE);
+    assert_eq!(rt; state.frag_state([Some(IMAGE), Some(IMAGE)]), ALL_OFF);
+    let commands = [
+        Rec::AlphaFuncx {
+            comparison: 0x0204,
+            reference: Fx(32768),
+        },
+        Rec::StencilFunc {
+            comparison: 0x0202,
+            reference: 300,
+            mask: 0x1F3,
+        },
+        Rec::StencilOp {
+            stencil_fail: 0x1E02,
+            depth_fail: 0x150A,
+            depth_pass: 0,
+        },
+        Rec::StencilMask { mask: 0x10F },
+        Rec::DepthMask { write: false },
+        Rec::Scissor {
+            x: -3,
+            y: 2147483640,
+            width: 5,
+            height: 8,
+        },
+        Rec::BlendFunc {
+            source: 0x0308,
+            destination: 0x0301,
+        },
+        Rec::Fogx {
+            parameter: 0x0B66,
+            values: Params(Fx(ONE), Fx(-1), Fx(32768), Fx(99999)),
+        },
+        Rec::TexEnvx {
+            target: 0x2300,
+            parameter: 0x2201,
+            values: Params(Fx(32768), Fx(0), Fx(ONE), Fx(-ONE)),
+        },
+    ];
+    for command in &commands {
+        assert_eq!(rt; state.apply(command), NONE);
+    }
+    for capability in [0x0B60, 0x0C11, 0x0BC0, 0x0B90, 0x0B71, 0x0BE2, 0x0DE1] {
+        run(&rt, &mut state, &[(Rec::Enable { capability }, NONE)]);
+    }
+    let on = FragState {
+        units: [Some(UNIT), None],
+        fog: Some([255, 0, 128, 255]),
+        scissor: Some(PixelBox {
+            x0: -3,
+            y0: 2147483640,
+            x1: 2,
+            y1: 2147483647,
+        }),
+        alpha: Some((Compare::Greater, 128)),
+        stencil: Some(StencilState {
+            func: Compare::Equal,
+            reference: 255,
+            mask: 0xF3,
+            write: 0x0F,
+            ops: [StencilOp::Increment, StencilOp::Invert, StencilOp::Zero],
+        }),
+        depth: Some((Compare::Less, false)),
+        blend: Some((
+            BlendFactor::SourceAlphaSaturate,
+            BlendFactor::OneMinusSourceColor,
+        )),
+        logic: None,
+        mask: [true; 4],
+    };
+    assert_eq!(rt; state.frag_state([Some(IMAGE), Some(IMAGE)]), on);
+    run(
+        &rt,
+        &mut state,
+        &[(Rec::Enable { capability: 0x0BF2 }, NONE)],
+    );
+    let combined = FragState {
+        units: [None; 2],
+        blend: None,
+        logic: Some(LogicOp::Copy),
+        ..on
+    };
+    assert_eq!(rt; state.frag_state([None, Some(IMAGE)]), combined);
 }
