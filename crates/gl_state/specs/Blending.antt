@@ -1,6 +1,6 @@
 -- How a fragment's colour and the one that is there become one (OpenGL ES 1.1.12, 4.1.7 and 4.1.9), and which
 -- components are written (4.2.2).
-use Rattle.std.specs.Prelude.{ℕ, Bool, true, List, [], ◌∷◌, Option, Some, None, Ok}
+use Rattle.std.specs.Prelude.{ℕ, Bool, true, [], ◌∷◌, Option, Some, None, Ok}
 use Rattle.gl_tokens.specs.BlendFactor as blend_factor
 use Rattle.gl_tokens.specs.Commands.{done, known, ◌>>=◌}
 use Rattle.gl_tokens.specs.LogicOp as logic_op

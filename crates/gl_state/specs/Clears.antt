@@ -1,5 +1,5 @@
 -- The values that Clears write, and what a Clear is (OpenGL ES 1.1.12, 4.2.3).
-use Rattle.std.specs.Prelude.{ℕ, ℤ, pos, ◌*◌, ◌/◌, Bool, true, not, ◌==◌, List, [], ◌∷◌, map, Option, Some, None, if◌then◌else◌, bit_and, unsigned_abs}
+use Rattle.std.specs.Prelude.{ℕ, ℤ, pos, ◌*◌, ◌/◌, Bool, true, not, ◌==◌, [], ◌∷◌, map, Option, Some, None, if◌then◌else◌, bit_and, unsigned_abs}
 use Rattle.fx_arith.specs.Number.{one, fixed, in_unit, c8}
 use Rattle.fx_arith.specs.declared.fx.Fx.{Fx}
 use Rattle.gl_records.specs.declared.clear.ClearItem.{ClearItem}

@@ -13,7 +13,6 @@ use Rattle.gl_tokens.specs.declared.combine_func.CombineFunc.{CombineFunc}
 use Rattle.gl_tokens.specs.declared.combine_func.CombineFunc.TheVariants as func
 use Rattle.gl_tokens.specs.declared.combine_operand.CombineOperand.{CombineOperand}
 use Rattle.gl_tokens.specs.declared.combine_operand.CombineOperand.TheVariants.{SourceColor, OneMinusSourceColor, SourceAlpha}
-use Rattle.gl_tokens.specs.declared.combine_source.CombineSource.{CombineSource}
 use Rattle.gl_tokens.specs.declared.combine_source.CombineSource.TheVariants.{Texture, Constant, Previous}
 use Rattle.gl_tokens.specs.declared.env_mode.EnvMode.TheVariants.{Modulate}
 use Rattle.gl_tokens.specs.declared.env_parameter.EnvParameter.{EnvParameter}

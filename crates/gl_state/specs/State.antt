@@ -1,6 +1,5 @@
 -- The state of the commands, and what each command makes of it.
 use Rattle.std.specs.Prelude.{ℕ, Bool, true, false, ◌&&◌, [], ◌∷◌, Option, Some, None, Ok, if◌then◌else◌}
-use Rattle.gl_records.specs.declared.attribs.Attribs.{Attribs}
 use Rattle.gl_records.specs.declared.clear.ClearItem.{ClearItem}
 use Rattle.gl_records.specs.declared.rec.Rec.{Rec}
 use Rattle.gl_records.specs.declared.rec.Rec.TheVariants.{ActiveTexture, Color4x, Color4ub, Normal3x, MultiTexCoord4x, MatrixMode, LoadIdentity, LoadMatrixx, MultMatrixx, PushMatrix, PopMatrix, Rotatex, Scalex, Translatex, Frustumx, Orthox, Viewport, DepthRangex, CullFace, FrontFace, ShadeModel, PointSizex, LineWidthx, PolygonOffsetx, ClipPlanex, Hint, Enable, Disable, Fogx, LightModelx, Materialx, AlphaFuncx, StencilFunc, StencilOp, StencilMask, DepthFunc, DepthMask, Scissor, BlendFunc, LogicOp, ColorMask, ClearColorx, ClearDepthx, ClearStencil, TexEnvx, PixelStorei}

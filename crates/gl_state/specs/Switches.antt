@@ -1,5 +1,5 @@
 -- What Enable and Disable switch (OpenGL ES 1.1.12, 2.3 and 6.2). Texturing is switched for each texture unit.
-use Rattle.std.specs.Prelude.{Bool, true, false, List, replicate, slice_index_or, slice_set}
+use Rattle.std.specs.Prelude.{Bool, true, false, replicate, slice_index_or, slice_set}
 use Rattle.gl_tokens.specs.declared.cap.Cap.{Cap}
 use Rattle.gl_tokens.specs.declared.cap.Cap.TheVariants.{PointSmooth, LineSmooth, CullFace, Lighting, ColorMaterial, Fog, DepthTest, StencilTest, Normalize, AlphaTest, Dither, Blend, ColorLogicOp, ScissorTest, Texture2D, ClipPlane0, Light0, Light1, Light2, Light3, Light4, Light5, Light6, Light7, PolygonOffsetFill, RescaleNormal, Multisample, SampleAlphaToCoverage, SampleAlphaToOne, SampleCoverage}
 use Rattle.gl_tokens.specs.declared.texture_unit.TextureUnit.{TextureUnit}
