@@ -11,12 +11,11 @@ use Rattle.gl_records.specs.Captured as captured
 use Rattle.gl_state.specs.State.{clear_item}
 use Rattle.gl_tokens.specs.declared.gl_error.GlError.{GlError}
 use Rattle.trace_reader.specs.Reading.{index_after}
-use Rattle.draw_front.specs.declared.pending.Pending.{Pending}
 use Rattle.draw_front.specs.declared.pending.Pending.TheVariants as pending
 use Rattle.draw_front.specs.Call.{answered, commanded, items_of, line_of}
 use Rattle.draw_front.specs.Collecting.{Collecting, after_call, stepped}
 use Rattle.draw_front.specs.Context.{Context}
-use Rattle.draw_front.specs.Draws.{is_drawn, items_of_triangles}
+use Rattle.draw_front.specs.Draws.{items_of_triangles}
 use Rattle.draw_front.specs.Immediate.{joined}
 use Rattle.draw_front.specs.Pending.{items_left, pending_clear, pending_of}
 

@@ -1,5 +1,5 @@
 -- What a draw makes of the arrays: its error, and its triangles as items (OpenGL ES 1.1.12, 2.6.1 and 2.8).
-use Rattle.std.specs.Prelude.{ℕ, ℤ, pos, ◌+◌, ◌*◌, ◌/◌, Bool, true, false, ◌&&◌, ◌||◌, ◌==◌, List, [], ◌∷◌, map, Option, Some, None, option_to_list, if◌then◌else◌, int_lt, is_none, unsigned_abs}
+use Rattle.std.specs.Prelude.{ℕ, ℤ, pos, ◌+◌, ◌*◌, ◌/◌, Bool, ◌&&◌, ◌||◌, ◌==◌, List, [], ◌∷◌, map, Option, Some, None, option_to_list, if◌then◌else◌, int_lt, is_none, unsigned_abs}
 use Rattle.std.specs.List.{flat_map, range_with_len}
 use Rattle.gl_records.specs.declared.clip_vertex.ClipVertex.{ClipVertex}
 use Rattle.gl_records.specs.declared.prim.PrimKind.TheVariants.{Triangle}

@@ -1,5 +1,5 @@
 -- What Get and IsEnabled answer of the state, each value as it is kept (OpenGL ES 1.1.12, 6.1 and 6.2).
-use Rattle.std.specs.Prelude.{ℕ, ℤ, pos, List, [], ◌∷◌, length, map, Option, Some, None, Result, Ok, Err}
+use Rattle.std.specs.Prelude.{ℤ, pos, List, [], ◌∷◌, length, map, Option, Some, None, Result, Ok, Err}
 use Rattle.gl_records.specs.declared.rec.Rec.{Rec}
 use Rattle.gl_records.specs.declared.rec.Rec.TheVariants.{Get, IsEnabled}
 use Rattle.gl_state.specs.declared.state.State.{State}

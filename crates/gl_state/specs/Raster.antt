@@ -1,5 +1,5 @@
 -- The viewport, and how primitives are made into pixels (OpenGL ES 1.1.12, 2.10.1, 2.12 and 3.3 to 3.5).
-use Rattle.std.specs.Prelude.{ℕ, ℤ, pos, negsuc, ◌+ℤ◌, Bool, true, false, not, ◌==◌, ◌||◌, int_lt, int_le, List, [], ◌∷◌, Option, Some, None, Ok, if◌then◌else◌, unsigned_abs}
+use Rattle.std.specs.Prelude.{ℕ, ℤ, pos, negsuc, ◌+ℤ◌, Bool, true, false, not, ◌==◌, ◌||◌, int_lt, int_le, List, [], ◌∷◌, Option, Ok, unsigned_abs}
 use Rattle.fx_arith.specs.Number.{one, fixed, clamp, floor_div, in_unit}
 use Rattle.fx_arith.specs.declared.fx.Fx.{Fx}
 use Rattle.gl_records.specs.declared.size.Size.{Size}
