@@ -13,3 +13,4 @@ pub mod State
 pub mod Switches
 pub mod Transforms
 pub mod Values
+pub mod VertexState

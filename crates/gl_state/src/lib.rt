@@ -30,6 +30,7 @@ mod tests;
 mod transforms;
 mod unit_fx;
 mod values;
+mod vertex_state;
 mod viewport;
 
 pub use alignment::Alignment;

@@ -1,12 +1,14 @@
 -- Normals and planes in eye coordinates, by the upper three rows and columns of the modelview matrix
 -- (OpenGL ES 1.1.12, 2.10.3 and 2.11). All is exact on raw numbers until a component is rounded down and
 -- saturated, which is this project's own.
-use Rattle.std.specs.Prelude.{ℕ, ℤ, pos, ◌+◌, ◌%◌, ◌+ℤ◌, ◌-ℤ◌, ◌*ℤ◌, List, [], ◌∷◌, ◌++◌, if◌then◌else◌}
+use Rattle.std.specs.Prelude.{ℕ, ℤ, pos, ◌+◌, ◌%◌, ◌==◌, ◌+ℤ◌, ◌-ℤ◌, ◌*ℤ◌, List, [], ◌∷◌, ◌++◌, if◌then◌else◌}
 use Rattle.std.specs.Ordering.{int_eq}
 use Rattle.fx_arith.specs.declared.fx.Fx.{Fx}
 use Rattle.fx_arith.specs.declared.mat4.Mat4.{Mat4}
 use Rattle.fx_arith.specs.Matrix.{entry, column}
 use Rattle.fx_arith.specs.Number.{component, dot3, fixed, floor_quotient, nearest_fixed, one, sub}
+use Rattle.fx_arith.specs.Vector.{len3}
+use Rattle.fx_arith.specs.Vector as vector
 
 -- the cofactor of row i and column j: the determinant of the other two rows and columns, each in the order
 -- in which they follow i and j round
@@ -35,6 +37,22 @@ normal_component m n i = fixed (over_determinant (along_row m i n) (determinant 
 unfoldable pub normal_to_eye : Mat4 → List Fx → List Fx
 normal_to_eye m n =
     if int_eq (determinant m) (pos 0) then n else normal_component m n 0 ∷ normal_component m n 1 ∷ normal_component m n 2 ∷ []
+
+-- the third row of the inverse, each entry as a GLfixed
+unfoldable pub inverse_third_row : Mat4 → List Fx
+inverse_third_row m =
+    fixed (over_determinant (cofactor m 0 2 *ℤ one) (determinant m))
+    ∷ fixed (over_determinant (cofactor m 1 2 *ℤ one) (determinant m))
+    ∷ fixed (over_determinant (cofactor m 2 2 *ℤ one) (determinant m)) ∷ []
+
+-- a vector over a length; over a length of 0 it stays
+unfoldable pub over_length : List Fx → ℕ → List Fx
+over_length v length = if length == 0 then v else vector.over_length v length 0 ∷ vector.over_length v length 1 ∷ vector.over_length v length 2 ∷ []
+
+-- RESCALE_NORMAL: a normal in eye coordinates over the length of the third row of the inverse; it stays where the matrix
+-- has no inverse, or that length is 0 (OpenGL ES 1.1.12, 2.10.3)
+unfoldable pub rescaled_normal : Mat4 → List Fx → List Fx
+rescaled_normal m n = if int_eq (determinant m) (pos 0) then n else over_length n (len3 (inverse_third_row m))
 
 -- the first three components of a vector
 abbrev pub first_three : List Fx → List Fx

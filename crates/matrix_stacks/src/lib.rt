@@ -19,7 +19,7 @@ mod stack;
 mod stacks;
 mod transforms;
 
-pub use normals::{cofactor, determinant, normal_to_eye, plane_to_eye};
+pub use normals::{cofactor, determinant, normal_to_eye, plane_to_eye, rescale_normal};
 pub use products::transform;
 pub use stacks::Stacks;
 

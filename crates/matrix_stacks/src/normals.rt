@@ -1,8 +1,8 @@
 ghost use Rattle.std.specs.Prelude.{◌≡◌, ◌≢◌, ◌<◌, ◌≤◌, ◌*◌, ◌^◌, ◌+ℤ◌, ◌-ℤ◌, ◌*ℤ◌, pos, unsigned_abs};
 ghost use Rattle.fx_arith.specs.Matrix.{entry as entry_of};
-ghost use Rattle.matrix_stacks.specs.Eye.{cofactor as cofactor_of, along_row as along_row_of, over_determinant as over_determinant_of, determinant as determinant_of, normal_to_eye as normal_to_eye_of, plane_to_eye as plane_to_eye_of};
+ghost use Rattle.matrix_stacks.specs.Eye.{cofactor as cofactor_of, along_row as along_row_of, over_determinant as over_determinant_of, determinant as determinant_of, normal_to_eye as normal_to_eye_of, inverse_third_row as inverse_third_row_of, over_length as over_length_of, rescaled_normal, plane_to_eye as plane_to_eye_of};
 
-use fx_arith::{Fx, Mat4, dot3, floor_quotient_128, product, saturate_wide, sub};
+use fx_arith::{Fx, Mat4, div, dot3, floor_quotient_128, len3, product, saturate_wide, sub};
 
 /// The cofactor of row `i` and column `j` in the upper three rows and columns of `m`, exact, in units of
 /// 1/65536 squared.
@@ -47,6 +47,47 @@ pub fn normal_to_eye(modelview: &Mat4, n: [Fx; 3]) -> [Fx; 3]
             over_determinant(along_row(modelview, 1, n), det),
             over_determinant(along_row(modelview, 2, n), det),
         ]
+    }
+}
+
+/// RESCALE_NORMAL: the normal `n`, in eye coordinates, over the length of the third row of the inverse of the upper three
+/// rows and columns of `modelview`, each component rounded down and saturated. It stays where there is no inverse, or where
+/// that length is 0.
+#[tactic(auto, unfolding(crate::specs::Eye::rescaled_normal))]
+pub fn rescale_normal(modelview: &Mat4, n: [Fx; 3]) -> [Fx; 3]
+    ensures { result ≡ rescaled_normal modelview.now n }
+{
+    let det = determinant(modelview);
+    if det == 0 {
+        n
+    } else {
+        over_length(n, len3(inverse_third_row(modelview, det)))
+    }
+}
+
+#[tactic(auto, unfolding(crate::specs::Eye::inverse_third_row))]
+fn inverse_third_row(m: &Mat4, determinant: i128) -> [Fx; 3]
+    requires value { determinant ≡ determinant_of m.now }
+    requires inverse { determinant ≢ pos 0 }
+    ensures { result ≡ inverse_third_row_of m.now }
+{
+    [
+        over_determinant(times(cofactor(m, 0, 2), Fx::ONE), determinant),
+        over_determinant(times(cofactor(m, 1, 2), Fx::ONE), determinant),
+        over_determinant(times(cofactor(m, 2, 2), Fx::ONE), determinant),
+    ]
+}
+
+#[tactic(auto, unfolding(crate::specs::Eye::over_length))]
+fn over_length(v: [Fx; 3], length: u64) -> [Fx; 3]
+    requires { length < 2 ^ 32 }
+    ensures { result ≡ over_length_of v length }
+{
+    if length == 0 {
+        v
+    } else {
+        let length = length as i64;
+        [div(v[0], length), div(v[1], length), div(v[2], length)]
     }
 }
 
