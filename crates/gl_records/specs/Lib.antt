@@ -1,6 +1,7 @@
 pub mod After
 pub mod AlphaTest
 pub mod Blending
+pub mod BytesAt
 pub mod Captured
 pub mod Clear
 pub mod ClipVertex

@@ -12,6 +12,7 @@
 
 mod attribs;
 mod bytes;
+mod bytes_at;
 mod clear;
 mod clip_vertex;
 mod combine;
@@ -41,6 +42,7 @@ mod vertex_state;
 
 pub use attribs::Attribs;
 pub use bytes::Bytes;
+pub use bytes_at::{byte_at, four_at, short_at, three_at, two_at};
 pub use clear::ClearItem;
 pub use clip_vertex::ClipVertex;
 pub use combine::Combine;

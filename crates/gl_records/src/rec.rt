@@ -37,6 +37,29 @@ pub enum Rec {
         region: u32,
         offset: u32,
     },
+    /// Where the array of normals lies: as VertexPointer, with three components of each.
+    NormalPointer {
+        kind: u32,
+        stride: i32,
+        region: u32,
+        offset: u32,
+    },
+    /// Where the array of colours lies: as VertexPointer.
+    ColorPointer {
+        size: i32,
+        kind: u32,
+        stride: i32,
+        region: u32,
+        offset: u32,
+    },
+    /// Where the array of texture coordinates lies of the client's active unit: as VertexPointer.
+    TexCoordPointer {
+        size: i32,
+        kind: u32,
+        stride: i32,
+        region: u32,
+        offset: u32,
+    },
     /// Switches an array on.
     EnableClientState {
         array: u32,
@@ -45,11 +68,25 @@ pub enum Rec {
     DisableClientState {
         array: u32,
     },
+    /// The texture unit whose array of texture coordinates later commands of arrays speak of
+    /// (OpenGL ES 1.1.12, 2.8).
+    ClientActiveTexture {
+        texture: u32,
+    },
     /// Draws the vertices `first` to `first + count - 1` of the arrays (OpenGL ES 1.1.12, 2.8).
     DrawArrays {
         mode: u32,
         first: i32,
         count: i32,
+    },
+    /// Draws the vertices of the arrays whose indices stand one after the other in a client region, from this byte
+    /// on; `kind` is the type of an index (OpenGL ES 1.1.12, 2.8).
+    DrawElements {
+        mode: u32,
+        count: i32,
+        kind: u32,
+        region: u32,
+        offset: u32,
     },
     /// The texture unit that later commands of textures speak of (OpenGL ES 1.1.12, 2.7).
     ActiveTexture {
