@@ -1,5 +1,6 @@
 pub mod Arrays
-pub mod CoordinateType
+pub mod ComponentFormat
+pub mod Draws
 pub mod Fetch
 pub mod Pointer
 pub mod Regions

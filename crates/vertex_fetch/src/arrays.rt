@@ -1,45 +1,60 @@
-ghost use Rattle.std.specs.Prelude.{◌≡◌, OnSome};
-ghost use Rattle.vertex_fetch.specs.Arrays.{opening_arrays, is_enabled, is_fixed, with_switch, client_state, vertex_pointer, with_command};
+ghost use Rattle.std.specs.Prelude.{◌≡◌, ◌≤◌, OnSome};
+ghost use Rattle.vertex_fetch.specs.Arrays.{opening_array, opening_arrays, array_of, is_enabled, with_array, with_texture_array, client_state as client_state_of, client_active_texture as client_active_texture_of, point as point_of, with_command};
 
-use crate::coordinate_type::CoordinateType;
-use crate::regions::LAST_REGION;
+use crate::component_format::ComponentFormat;
+use crate::pointer::Pointer;
 use crate::vertex_array::VertexArray;
 use gl_records::Rec;
-use gl_tokens::{ArrayKind, GlError};
+use gl_tokens::{ArrayKind, GlError, TextureUnit};
 
-/// Where the vertex array lies, and which arrays are on. Commands set it, and fetching reads it.
+/// Where the vertex arrays lie, and which of them are on. Commands set them, and fetching reads them.
 #[derive(Clone, Copy, Debug, PartialEq, Eq)]
 pub struct Arrays {
-    /// Where vertices' positions lie.
+    /// Positions x y z w.
     pub vertex: VertexArray,
-    /// Whether positions are read.
-    pub vertex_on: bool,
-    /// Whether normals are to be read, once there is a command that says where they lie.
-    pub normal_on: bool,
-    /// The same of colours.
-    pub color_on: bool,
-    /// The same of texture coordinates.
-    pub texture_coord_on: bool,
+    /// Normals x y z.
+    pub normal: VertexArray,
+    /// Colours R G B A.
+    pub color: VertexArray,
+    /// Texture coordinates s t r q of the first unit.
+    pub texture0: VertexArray,
+    /// Those of the second unit.
+    pub texture1: VertexArray,
+    /// The client's active texture unit: whose texture coordinates commands speak of.
+    pub unit: TextureUnit,
+}
+
+fn opening(size: u8) -> VertexArray
+    requires { size ≤ 4 }
+    ensures { result ≡ opening_array size }
+{
+    VertexArray {
+        pointer: Pointer::new(size, ComponentFormat::Fixed, 0, 0, 0),
+        on: false,
+    }
 }
 
 impl Arrays {
-    /// Every array is off, and the vertex array is four GLfixed coordinates at the front of region 0.
+    /// Every array is off, and lies at the front of region 0: GLfixed numbers, three of each normal and four of all
+    /// else. The client's active unit is the first.
     pub fn new() -> Arrays
         ensures { result ≡ opening_arrays }
     {
         Arrays {
-            vertex: VertexArray::new(4, CoordinateType::Fixed, 0, 0, 0),
-            vertex_on: false,
-            normal_on: false,
-            color_on: false,
-            texture_coord_on: false,
+            vertex: opening(4),
+            normal: opening(3),
+            color: opening(4),
+            texture0: opening(4),
+            texture1: opening(4),
+            unit: TextureUnit::Texture0,
         }
     }
 
-    /// Runs VertexPointer, EnableClientState or DisableClientState; any other command changes nothing. The first
-    /// error that holds is answered, and then nothing is changed. VertexPointer: InvalidValue where the size isn't
-    /// 2 to 4, InvalidEnum where the type isn't BYTE, SHORT or FIXED, InvalidValue where the stride is below 0,
-    /// InvalidValue where the region is above 15. The others: InvalidEnum where there is no such array.
+    /// Runs VertexPointer, NormalPointer, ColorPointer, TexCoordPointer, EnableClientState, DisableClientState or
+    /// ClientActiveTexture; any other command changes nothing. The first error that holds is answered, and then
+    /// nothing is changed. Pointers: InvalidValue where the size isn't 2 to 4 (of colours 4), InvalidEnum where the
+    /// type isn't BYTE, SHORT or FIXED (of colours UNSIGNED_BYTE or FIXED), InvalidValue where the stride is below 0,
+    /// InvalidValue where the region is above 15. The others: InvalidEnum where there is no such array or unit.
     pub fn set(&mut self, rec: &Rec) -> Option<GlError>
         ensures run { (self.new, result) ≡ with_command self.old rec.now }
         ensures unchanged { OnSome result (self.new ≡ self.old) }
@@ -51,81 +66,127 @@ impl Arrays {
                 stride,
                 region,
                 offset,
-            } => self.vertex_pointer(size, kind, stride, region, offset),
+            } => self.point(
+                ArrayKind::Vertex,
+                Pointer::of_coordinates(size, kind, stride, region, offset),
+            ),
+            Rec::NormalPointer {
+                kind,
+                stride,
+                region,
+                offset,
+            } => self.point(
+                ArrayKind::Normal,
+                Pointer::of_normals(kind, stride, region, offset),
+            ),
+            Rec::ColorPointer {
+                size,
+                kind,
+                stride,
+                region,
+                offset,
+            } => self.point(
+                ArrayKind::Color,
+                Pointer::of_colors(size, kind, stride, region, offset),
+            ),
+            Rec::TexCoordPointer {
+                size,
+                kind,
+                stride,
+                region,
+                offset,
+            } => self.point(
+                ArrayKind::TextureCoord,
+                Pointer::of_coordinates(size, kind, stride, region, offset),
+            ),
             Rec::EnableClientState { array } => self.client_state(array, true),
             Rec::DisableClientState { array } => self.client_state(array, false),
+            Rec::ClientActiveTexture { texture } => self.client_active_texture(texture),
             _ => None,
         }
     }
 
-    /// Whether this array is on.
+    /// Whether this array is on; of texture coordinates, that of the client's active unit.
     pub fn enabled(&self, kind: ArrayKind) -> bool
         ensures { result ≡ is_enabled self.now kind }
     {
+        self.array(kind).on
+    }
+
+    /// An array; of texture coordinates, that of the client's active unit.
+    fn array(&self, kind: ArrayKind) -> &VertexArray
+        ensures { result.now ≡ array_of self.now kind }
+    {
         match kind {
-            ArrayKind::Vertex => self.vertex_on,
-            ArrayKind::Normal => self.normal_on,
-            ArrayKind::Color => self.color_on,
-            ArrayKind::TextureCoord => self.texture_coord_on,
+            ArrayKind::Vertex => &self.vertex,
+            ArrayKind::Normal => &self.normal,
+            ArrayKind::Color => &self.color,
+            ArrayKind::TextureCoord => match self.unit {
+                TextureUnit::Texture0 => &self.texture0,
+                TextureUnit::Texture1 => &self.texture1,
+            },
         }
     }
 
-    /// Whether the vertex array has GLfixed coordinates.
-    pub fn vertex_is_fixed(&self) -> bool
-        ensures { result ≡ is_fixed self.now.vertex.kind }
+    fn put(&mut self, kind: ArrayKind, array: VertexArray)
+        ensures { self.new ≡ with_array self.old kind array }
     {
-        matches!(self.vertex.kind(), CoordinateType::Fixed)
+        match kind {
+            ArrayKind::Vertex => self.vertex = array,
+            ArrayKind::Normal => self.normal = array,
+            ArrayKind::Color => self.color = array,
+            ArrayKind::TextureCoord => self.put_texture(self.unit, array),
+        }
     }
 
-    fn client_state(&mut self, array: u32, on: bool) -> Option<GlError>
-        ensures run { (self.new, result) ≡ client_state self.old array on }
+    fn put_texture(&mut self, unit: TextureUnit, array: VertexArray)
+        ensures { self.new ≡ with_texture_array self.old unit array }
+    {
+        match unit {
+            TextureUnit::Texture0 => self.texture0 = array,
+            TextureUnit::Texture1 => self.texture1 = array,
+        }
+    }
+
+    /// An array lies elsewhere from now on, where no error is given.
+    fn point(&mut self, kind: ArrayKind, given: Result<Pointer, GlError>) -> Option<GlError>
+        ensures run { (self.new, result) ≡ point_of self.old kind given }
         ensures unchanged { OnSome result (self.new ≡ self.old) }
     {
-        match ArrayKind::from_code(array) {
+        match given {
+            Ok(pointer) => {
+                let on = self.array(kind).on;
+                self.put(kind, VertexArray { pointer, on });
+                None
+            }
+            Err(error) => Some(error),
+        }
+    }
+
+    fn client_state(&mut self, code: u32, on: bool) -> Option<GlError>
+        ensures run { (self.new, result) ≡ client_state_of self.old code on }
+        ensures unchanged { OnSome result (self.new ≡ self.old) }
+    {
+        match ArrayKind::from_code(code) {
             Some(kind) => {
-                self.switch(kind, on);
+                let pointer = self.array(kind).pointer;
+                self.put(kind, VertexArray { pointer, on });
                 None
             }
             None => Some(GlError::InvalidEnum),
         }
     }
 
-    fn switch(&mut self, kind: ArrayKind, on: bool)
-        ensures { self.new ≡ with_switch self.old kind on }
-    {
-        match kind {
-            ArrayKind::Vertex => self.vertex_on = on,
-            ArrayKind::Normal => self.normal_on = on,
-            ArrayKind::Color => self.color_on = on,
-            ArrayKind::TextureCoord => self.texture_coord_on = on,
-        }
-    }
-
-    fn vertex_pointer(
-        &mut self,
-        size: i32,
-        code: u32,
-        stride: i32,
-        region: u32,
-        offset: u32,
-    ) -> Option<GlError>
-        ensures run { (self.new, result) ≡ vertex_pointer self.old size code stride region offset }
+    fn client_active_texture(&mut self, texture: u32) -> Option<GlError>
+        ensures run { (self.new, result) ≡ client_active_texture_of self.old texture }
         ensures unchanged { OnSome result (self.new ≡ self.old) }
     {
-        if size < 2 || 4 < size {
-            return Some(GlError::InvalidValue);
+        match TextureUnit::from_code(texture) {
+            Some(unit) => {
+                self.unit = unit;
+                None
+            }
+            None => Some(GlError::InvalidEnum),
         }
-        let Some(kind) = CoordinateType::from_code(code) else {
-            return Some(GlError::InvalidEnum);
-        };
-        if stride < 0 {
-            return Some(GlError::InvalidValue);
-        }
-        if region > LAST_REGION {
-            return Some(GlError::InvalidValue);
-        }
-        let size = size.unsigned_abs() as u8;
-        self.vertex = VertexArray::new(size, kind, stride.unsigned_abs(), region, offset);
-        None
     }
 }
