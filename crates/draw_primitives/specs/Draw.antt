@@ -1,0 +1,89 @@
+-- The primitives of a draw, in their order: corners from the arrays, flat colours, clipping, set-up
+-- (OpenGL ES 1.1.12, 2.6 to 2.12).
+use Rattle.std.specs.Prelude.{◌≡◌, ℕ, ◌<◌, ◌++◌, Bool, List, [], All, map, is_some, if◌then◌else◌}
+use Rattle.std.specs.List.{flat_map}
+use Rattle.gl_records.specs.declared.clip_vertex.ClipVertex.{ClipVertex}
+use Rattle.gl_records.specs.declared.prim.PrimKind.{PrimKind}
+use Rattle.gl_records.specs.declared.prim.PrimKind.TheVariants.{Point, Line, Triangle}
+use Rattle.gl_records.specs.declared.prim.Primitive.{Primitive}
+use Rattle.gl_records.specs.declared.rec.Rec.{Rec}
+use Rattle.gl_records.specs.declared.size.Size.{Size}
+use Rattle.gl_records.specs.ClipVertex.{vertex}
+use Rattle.gl_records.specs.SetupRules.{AreRulesInRange}
+use Rattle.gl_tokens.specs.declared.mode.Mode.{Mode}
+use Rattle.gl_tokens.specs.declared.mode.Mode.TheVariants as mode
+use Rattle.prim_assembly.specs.Primitives.{primitives}
+use Rattle.vertex_fetch.specs.declared.arrays.Arrays.{Arrays}
+use Rattle.vertex_fetch.specs.Draws.{HasVertex, index_of}
+use Rattle.vertex_fetch.specs.Fetch.{fetch_of}
+use Rattle.vertex_stage.specs.Vertex.{vertex_of}
+use Rattle.draw_primitives.specs.declared.draw_state.DrawState.{DrawState}
+use Rattle.draw_primitives.specs.Fan.{clipped, fan, set_up}
+
+-- what a mode's primitives span
+abbrev pub kind_of : Mode → PrimKind
+kind_of mode.Points = Point
+kind_of mode.Lines = Line
+kind_of mode.LineLoop = Line
+kind_of mode.LineStrip = Line
+kind_of mode.Triangles = Triangle
+kind_of mode.TriangleStrip = Triangle
+kind_of mode.TriangleFan = Triangle
+
+-- where a draw takes its vertices from: its record, the arrays and the client regions
+pub record Source : Type 0 where
+  pub rec : Rec
+  pub arrays : Arrays
+  pub regions : List (List ℕ)
+
+-- vertex k of a draw, in clip coordinates
+unfoldable pub vertex_at : DrawState → Source → ℕ → ClipVertex
+vertex_at state source k = vertex_of state.vertex (fetch_of source.arrays source.regions state.current (index_of source.rec source.regions k))
+
+-- the vertex with the colours of another
+abbrev pub with_colors_of : ClipVertex → ClipVertex → ClipVertex
+with_colors_of last v = record v { front = last.front; back = last.back }
+
+-- a flat primitive has the colours of its last corner, before it is clipped
+abbrev pub shaded : Bool → List ClipVertex → List ClipVertex
+shaded flat corners = if flat then map (with_colors_of (vertex corners 2)) corners else corners
+
+-- the corners of a primitive, by the numbers of its vertices
+abbrev pub corners_of : DrawState → Source → List ℕ → List ClipVertex
+corners_of state source numbers = shaded state.flat (map (vertex_at state source) numbers)
+
+-- the primitives that set-up makes of one, by the numbers of its vertices
+unfoldable pub set_up_of : DrawState → Source → Size → PrimKind → List ℕ → List Primitive
+set_up_of state source size kind numbers =
+    set_up state.rules kind size (fan (clipped kind (is_some state.vertex.plane) (corners_of state source numbers)))
+
+-- and of several
+abbrev pub set_up_all : DrawState → Source → Size → PrimKind → List (List ℕ) → List Primitive
+set_up_all state source size kind each = flat_map (set_up_of state source size kind) each
+
+-- the primitives of a draw of n vertices
+abbrev pub primitives_of : DrawState → Source → Size → Mode → ℕ → List Primitive
+primitives_of state source size mode n = set_up_all state source size (kind_of mode) (primitives mode n)
+
+-- a draw without error that has vertices 0 to n - 1
+abbrev pub HasVertices : Rec → ℕ → Type 0
+HasVertices rec n = (k : ℕ) → k < n → HasVertex rec k
+
+-- what is still to come of a draw: the pieces of the primitive in hand, and the primitives behind it, by the numbers of their
+-- vertices
+pub record Rest : Type 0 where
+  pub state : DrawState
+  pub rec : Rec
+  pub kind : PrimKind
+  pub pieces : List (List ClipVertex)
+  pub behind : List (List ℕ)
+
+-- before the first primitive
+abbrev pub all_of : DrawState → Rec → Mode → ℕ → Rest
+all_of state rec mode n = record { state = state; rec = rec; kind = kind_of mode; pieces = []; behind = primitives mode n }
+
+-- the primitives themselves, from these arrays and regions
+abbrev pub primitives_left : Arrays → List (List ℕ) → Size → Rest → List Primitive
+primitives_left arrays regions size rest =
+    set_up rest.state.rules rest.kind size rest.pieces
+    ++ set_up_all rest.state (record { rec = rest.rec; arrays = arrays; regions = regions }) size rest.kind rest.behind

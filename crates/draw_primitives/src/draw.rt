@@ -1,0 +1,143 @@
+//! A draw, and what is still to come of it.
+ghost use Rattle.std.specs.Prelude.{◌≡◌, ◌<◌, ◌≤◌, ◌++◌, [], drop, IsNone, IfSome, option_to_list};
+ghost use Rattle.gl_records.specs.SetupRules.{AreRulesInRange};
+ghost use Rattle.gl_records.specs.Valid.{IsValid};
+ghost use Rattle.prim_assembly.specs.Primitives.{primitives};
+ghost use Rattle.draw_primitives.specs.Draw.{HasVertices, all_of, kind_of as kind_of_mode, primitives_left, set_up_all};
+ghost use Rattle.draw_primitives.specs.Fan.{set_up};
+
+use crate::corners::corners;
+use crate::draw_state::DrawState;
+use crate::fan::Fan;
+use gl_records::{Prim, PrimKind, Rec, Size};
+use gl_tokens::Mode;
+use prim_assembly::{corners as numbers_of, count};
+use std::marker::Model;
+use vertex_fetch::{Arrays, Regions};
+
+/// A draw in hand. It takes its vertices from the arrays only when their primitives are asked for.
+#[derive(Drop)]
+pub struct Draw {
+    state: DrawState,
+    rec: Rec,
+    assembly: Assembly,
+    /// The primitive behind the one in hand.
+    next: u32,
+    /// The pieces left of the one in hand.
+    fan: Fan,
+}
+
+/// How many vertices are put together, and to what.
+#[derive(Clone, Copy)]
+struct Assembly {
+    mode: Mode,
+    amount: u32,
+}
+
+impl Model for Draw {
+    ghost use Rattle.std.specs.Prelude.{drop};
+    ghost use Rattle.gl_records.specs.SetupRules.{AreRulesInRange};
+    ghost use Rattle.prim_assembly.specs.Primitives.{primitives};
+    ghost use Rattle.draw_primitives.specs.Draw.{HasVertices, Rest, kind_of};
+
+    ghost Value = { Rest };
+
+    ghost view = { λ draw. record {
+      state = draw.state;
+      rec = draw.rec;
+      kind = kind_of draw.assembly.mode;
+      pieces = draw.fan;
+      behind = drop draw.next (primitives draw.assembly.mode draw.assembly.amount);
+    } };
+
+    ghost invariant = { λ draw. AreRulesInRange draw.state.rules × HasVertices draw.rec draw.assembly.amount };
+}
+
+impl Draw {
+    /// A draw of `amount` vertices, with all of its primitives to come. The record is that of a draw without error, of at least
+    /// so many vertices.
+    pub fn new(state: DrawState, rec: Rec, mode: Mode, amount: u32) -> Draw
+        requires rules { AreRulesInRange state.rules }
+        requires vertices { HasVertices rec amount }
+        ensures { result ≡ all_of state rec mode amount }
+    {
+        Draw {
+            state,
+            rec,
+            assembly: Assembly { mode, amount },
+            next: 0,
+            fan: Fan::empty(),
+        }
+    }
+
+    /// Takes the next primitive, None exactly where none is left. It can be drawn on a surface of this size.
+    pub fn next(&mut self, arrays: &Arrays, regions: &Regions, size: Size) -> Option<Prim>
+        ensures prims { primitives_left arrays.now regions.now size self.old
+            ≡ option_to_list result ++ primitives_left arrays.now regions.now size self.new }
+        ensures none { IsNone result → primitives_left arrays.now regions.now size self.new ≡ [] }
+        ensures valid { IfSome result (λ prim. IsValid prim size) }
+    {
+        let kind = kind_of(self.assembly.mode);
+        if let Some(prim) = self.fan.next(&self.state.rules, kind, size) {
+            return Some(prim);
+        }
+        let (prim, fan, next) = next_prim(
+            &self.state,
+            &self.rec,
+            self.assembly,
+            self.next,
+            arrays,
+            regions,
+            size,
+        );
+        self.fan = fan;
+        self.next = next;
+        prim
+    }
+}
+
+/// The first primitive that set-up makes of the draw's from number `next` on, the pieces left of that one, and the number behind
+/// it.
+fn next_prim(
+    state: &DrawState,
+    rec: &Rec,
+    assembly: Assembly,
+    next: u32,
+    arrays: &Arrays,
+    regions: &Regions,
+    size: Size,
+) -> (Option<Prim>, Fan, u32)
+    requires rules { AreRulesInRange state.now.rules }
+    requires vertices { HasVertices rec.now assembly.amount }
+    ensures prims { set_up_all state.now (record { rec = rec.now; arrays = arrays.now; regions = regions.now }) size (kind_of_mode assembly.mode) (drop next (primitives assembly.mode assembly.amount))
+        ≡ option_to_list result.0
+        ++ set_up state.now.rules (kind_of_mode assembly.mode) size result.1
+        ++ set_up_all state.now (record { rec = rec.now; arrays = arrays.now; regions = regions.now }) size (kind_of_mode assembly.mode) (drop result.2 (primitives assembly.mode assembly.amount)) }
+    ensures none { IsNone result.0 → result.1 ≡ [] }
+    ensures end { IsNone result.0 → drop result.2 (primitives assembly.mode assembly.amount) ≡ [] }
+    ensures valid { IfSome result.0 (λ prim. IsValid prim size) }
+{
+    let kind = kind_of(assembly.mode);
+    let user = state.vertex.plane.is_some();
+    let end = count(assembly.mode, assembly.amount);
+    for k in next..end {
+        let numbers = numbers_of(assembly.mode, assembly.amount, k);
+        let corners = corners(state, rec, arrays, regions, numbers);
+        let mut fan = Fan::clipped(kind, user, &corners);
+        if let Some(prim) = fan.next(&state.rules, kind, size) {
+            return (Some(prim), fan, k + 1);
+        }
+    }
+    (None, Fan::empty(), end)
+}
+
+/// What a mode's primitives span.
+fn kind_of(mode: Mode) -> PrimKind
+    ensures { result ≡ kind_of_mode mode }
+{
+    match mode {
+        Mode::Points => PrimKind::Point,
+        Mode::Lines | Mode::LineLoop | Mode::LineStrip => PrimKind::Line,
+        Mode::Triangles | Mode::TriangleStrip | Mode::TriangleFan => PrimKind::Triangle,
+    }
+}
