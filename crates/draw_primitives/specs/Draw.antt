@@ -1,6 +1,6 @@
 -- The primitives of a draw, in their order: corners from the arrays, flat colours, clipping, set-up
 -- (OpenGL ES 1.1.12, 2.6 to 2.12).
-use Rattle.std.specs.Prelude.{◌≡◌, ℕ, ◌<◌, ◌++◌, Bool, List, [], All, map, is_some, if◌then◌else◌}
+use Rattle.std.specs.Prelude.{ℕ, ◌<◌, ◌++◌, Bool, List, [], map, is_some, if◌then◌else◌}
 use Rattle.std.specs.List.{flat_map}
 use Rattle.gl_records.specs.declared.clip_vertex.ClipVertex.{ClipVertex}
 use Rattle.gl_records.specs.declared.prim.PrimKind.{PrimKind}
@@ -9,7 +9,6 @@ use Rattle.gl_records.specs.declared.prim.Primitive.{Primitive}
 use Rattle.gl_records.specs.declared.rec.Rec.{Rec}
 use Rattle.gl_records.specs.declared.size.Size.{Size}
 use Rattle.gl_records.specs.ClipVertex.{vertex}
-use Rattle.gl_records.specs.SetupRules.{AreRulesInRange}
 use Rattle.gl_tokens.specs.declared.mode.Mode.{Mode}
 use Rattle.gl_tokens.specs.declared.mode.Mode.TheVariants as mode
 use Rattle.prim_assembly.specs.Primitives.{primitives}

@@ -1,4 +1,4 @@
-use Rattle.std.proofs.Common.{◌≡◌, ◌∙◌, Some, None, sym, arith}
+use Rattle.std.proofs.Common.{◌∙◌, Some, None, sym, arith}
 use Rattle.draw_primitives.proofs.Left.{fan-set-up}
 use Rattle.draw_primitives.proofs.fan.next_prim.Goals as goal
 

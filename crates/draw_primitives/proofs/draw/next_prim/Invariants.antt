@@ -1,0 +1,9 @@
+use Rattle.std.proofs.Common.{◌≡◌, drop}
+use Rattle.prim_assembly.specs.Primitives.{primitives}
+use Rattle.draw_primitives.specs.Draw.{kind_of, set_up_all}
+use Rattle.draw_primitives.proofs.draw.next_prim.Given as goal
+
+abbrev pub invariant-loop-k : goal.invariant-loop-k
+invariant-loop-k l =
+    set_up_all l.state (record { rec = l.rec; arrays = l.arrays; regions = l.regions }) l.size (kind_of l.assembly.mode) (drop l.fn.next (primitives l.assembly.mode l.assembly.amount))
+    ≡ set_up_all l.state (record { rec = l.rec; arrays = l.arrays; regions = l.regions }) l.size (kind_of l.assembly.mode) (drop l.k (primitives l.assembly.mode l.assembly.amount))
