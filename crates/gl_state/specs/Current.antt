@@ -1,4 +1,4 @@
--- What a vertex takes where no array gives it, and the active texture unit (OpenGL ES 1.1.12, 2.7).
+-- What a vertex takes where no array gives it, and the active texture units (OpenGL ES 1.1.12, 2.7 and 2.8).
 use Rattle.std.specs.Prelude.{ℕ, pos, List, [], ◌∷◌, Option, Ok}
 use Rattle.fx_arith.specs.Number.{one, fixed, fixed_from_byte}
 use Rattle.fx_arith.specs.declared.fx.Fx.{Fx}
@@ -18,6 +18,7 @@ origin = fixed (pos 0) ∷ fixed (pos 0) ∷ fixed (pos 0) ∷ fixed one ∷ []
 abbrev pub opening_values : CurrentValues
 opening_values = record {
   unit = Texture0;
+  client_unit = Texture0;
   color = fixed one ∷ fixed one ∷ fixed one ∷ fixed one ∷ [];
   normal = fixed (pos 0) ∷ fixed (pos 0) ∷ fixed one ∷ [];
   texture0 = origin;
@@ -51,6 +52,12 @@ abbrev pub multi_tex_coord : CurrentValues → ℕ → Fx → Fx → Fx → Fx �
 multi_tex_coord values texture s t r q = done values do
   unit ← known (texture_unit.from_code_of texture)
   Ok (with_coordinates values unit (s ∷ t ∷ r ∷ q ∷ []))
+
+-- ClientActiveTexture
+abbrev pub client_active_texture : CurrentValues → ℕ → CurrentValues × Option GlError
+client_active_texture values texture = done values do
+  unit ← known (texture_unit.from_code_of texture)
+  Ok (record values { client_unit = unit })
 
 -- the values as those of a vertex, at the origin
 abbrev pub attribs : CurrentValues → Attribs

@@ -2,7 +2,7 @@
 use Rattle.std.specs.Prelude.{ℕ, Bool, true, false, ◌&&◌, [], ◌∷◌, Option, Some, None, Ok, if◌then◌else◌}
 use Rattle.gl_records.specs.declared.clear.ClearItem.{ClearItem}
 use Rattle.gl_records.specs.declared.rec.Rec.{Rec}
-use Rattle.gl_records.specs.declared.rec.Rec.TheVariants.{ActiveTexture, Color4x, Color4ub, Normal3x, MultiTexCoord4x, MatrixMode, LoadIdentity, LoadMatrixx, MultMatrixx, PushMatrix, PopMatrix, Rotatex, Scalex, Translatex, Frustumx, Orthox, Viewport, DepthRangex, CullFace, FrontFace, ShadeModel, PointSizex, LineWidthx, PolygonOffsetx, ClipPlanex, Hint, Enable, Disable, Fogx, LightModelx, Materialx, AlphaFuncx, StencilFunc, StencilOp, StencilMask, DepthFunc, DepthMask, Scissor, BlendFunc, LogicOp, ColorMask, ClearColorx, ClearDepthx, ClearStencil, TexEnvx, PixelStorei}
+use Rattle.gl_records.specs.declared.rec.Rec.TheVariants.{ClientActiveTexture, ActiveTexture, Color4x, Color4ub, Normal3x, MultiTexCoord4x, MatrixMode, LoadIdentity, LoadMatrixx, MultMatrixx, PushMatrix, PopMatrix, Rotatex, Scalex, Translatex, Frustumx, Orthox, Viewport, DepthRangex, CullFace, FrontFace, ShadeModel, PointSizex, LineWidthx, PolygonOffsetx, ClipPlanex, Hint, Enable, Disable, Fogx, LightModelx, Materialx, AlphaFuncx, StencilFunc, StencilOp, StencilMask, DepthFunc, DepthMask, Scissor, BlendFunc, LogicOp, ColorMask, ClearColorx, ClearDepthx, ClearStencil, TexEnvx, PixelStorei}
 use Rattle.gl_records.specs.declared.setup_rules.SetupRules.{SetupRules}
 use Rattle.gl_records.specs.declared.size.Size.{Size}
 use Rattle.gl_tokens.specs.Cap as cap
@@ -110,6 +110,7 @@ switch s code on = done s do
 
 -- the state after a command, and the command's error; a command of something else changes nothing
 abbrev pub ran : State → Rec → State × Option GlError
+ran s (ClientActiveTexture texture) = on_current s (current.client_active_texture s.current texture)
 ran s (ActiveTexture texture) = active_texture s texture
 ran s (Color4x red green blue alpha) = (colored s (current.with_color s.current red green blue alpha), None)
 ran s (Color4ub red green blue alpha) = (colored s (current.with_color_bytes s.current red green blue alpha), None)

@@ -1,15 +1,17 @@
 ghost use Rattle.std.specs.Prelude.{◌≡◌, OnSome};
-ghost use Rattle.gl_state.specs.Current.{opening_values, with_color, with_color_bytes, with_normal, coordinates as coordinates_of, with_coordinates, multi_tex_coord as multi_tex_coord_of, attribs as attribs_of};
+ghost use Rattle.gl_state.specs.Current.{opening_values, with_color, with_color_bytes, with_normal, coordinates as coordinates_of, with_coordinates, multi_tex_coord as multi_tex_coord_of, client_active_texture as client_active_texture_of, attribs as attribs_of};
 
 use fx_arith::{Fx, fixed_from_byte};
 use gl_records::Attribs;
 use gl_tokens::{GlError, TextureUnit};
 
-/// What a vertex takes where no array gives it, and the active texture unit (OpenGL ES 1.1.12, 2.7).
+/// What a vertex takes where no array gives it, and the active texture units (OpenGL ES 1.1.12, 2.7 and 2.8).
 #[derive(Clone, Copy, Debug, PartialEq, Eq)]
 pub struct CurrentValues {
     /// The active texture unit.
     pub unit: TextureUnit,
+    /// The client's active texture unit, which commands of arrays speak of.
+    pub client_unit: TextureUnit,
     /// R G B A, as it was given.
     pub color: [Fx; 4],
     /// x y z.
@@ -24,12 +26,14 @@ pub struct CurrentValues {
 const ORIGIN: [Fx; 4] = [Fx::ZERO, Fx::ZERO, Fx::ZERO, Fx::ONE];
 
 impl CurrentValues {
-    /// Colour 1 1 1 1, normal 0 0 1, texture coordinates 0 0 0 1; the first unit is active.
+    /// Colour 1 1 1 1, normal 0 0 1, texture coordinates 0 0 0 1; the first unit is active,
+    /// also of the client.
     pub fn new() -> CurrentValues
         ensures { result ≡ opening_values }
     {
         CurrentValues {
             unit: TextureUnit::Texture0,
+            client_unit: TextureUnit::Texture0,
             color: [Fx::ONE; 4],
             normal: [Fx::ZERO, Fx::ZERO, Fx::ONE],
             texture0: ORIGIN,
@@ -78,6 +82,20 @@ impl CurrentValues {
         match TextureUnit::from_code(texture) {
             Some(unit) => {
                 self.set_coordinates(unit, [s, t, r, q]);
+                None
+            }
+            None => Some(GlError::InvalidEnum),
+        }
+    }
+
+    /// ClientActiveTexture: InvalidEnum where there is no such unit.
+    pub(crate) fn client_active_texture(&mut self, texture: u32) -> Option<GlError>
+        ensures run { (self.new, result) ≡ client_active_texture_of self.old texture }
+        ensures unchanged { OnSome result (self.new ≡ self.old) }
+    {
+        match TextureUnit::from_code(texture) {
+            Some(unit) => {
+                self.client_unit = unit;
                 None
             }
             None => Some(GlError::InvalidEnum),

@@ -1,4 +1,4 @@
-//! The state of the commands, but for arrays, matrices and objects: what each command makes of it, and its error.
+//! The state of the commands, but for arrays and objects: what each command makes of it, and its error.
 //!
 //! Each subject has a struct, a file and a module of definitions in `specs/`; [`State`] puts them together and
 //! dispatches. A command is one equation, the state after it and its error: `(self.new, result) ≡ ..`. With an error

@@ -31,7 +31,7 @@ const GREATEST_POINT: u16 = 64;
 
 const GREATEST_LINE: u16 = 16;
 
-/// The state of the commands, but for arrays, matrices and objects. The front keeps it.
+/// The state of the commands, but for arrays and objects. The front keeps it.
 #[derive(Drop)]
 pub struct State {
     pub current: CurrentValues,
@@ -75,6 +75,7 @@ impl State {
         ensures unchanged { OnSome result (self.new ≡ self.old) }
     {
         match rec {
+            Rec::ClientActiveTexture { texture } => self.current.client_active_texture(*texture),
             Rec::ActiveTexture { texture } => self.active_texture(*texture),
             Rec::Color4x {
                 red,
@@ -269,9 +270,13 @@ impl State {
             | Rec::IsEnabled { .. }
             | Rec::ClientBytes { .. }
             | Rec::VertexPointer { .. }
+            | Rec::NormalPointer { .. }
+            | Rec::ColorPointer { .. }
+            | Rec::TexCoordPointer { .. }
             | Rec::EnableClientState { .. }
             | Rec::DisableClientState { .. }
             | Rec::DrawArrays { .. }
+            | Rec::DrawElements { .. }
             | Rec::SampleCoveragex { .. }
             | Rec::Clear { .. } => None,
         }

@@ -36,6 +36,19 @@ fn run<R: Abort>(rt: &R, state: &mut State, table: &[(Rec, Option<GlError>)]) {
 }
 
 #[test]
+fn the_clients_unit_is_another_than_the_active_one(rt: HostRuntime) {
+    let mut state = State::new(SIZE);
+    let table = [
+        (Rec::ClientActiveTexture { texture: 0x84C1 }, NONE),
+        (Rec::ClientActiveTexture { texture: 0x84C2 }, ENUM),
+        (Rec::ActiveTexture { texture: 0x84C0 }, NONE),
+    ];
+    run(&rt, &mut state, &table);
+    assert_eq!(rt; state.current.client_unit, TextureUnit::Texture1);
+    assert_eq!(rt; state.unit(), 0);
+}
+
+#[test]
 fn the_state_that_set_up_goes_by(rt: HostRuntime) {
     let mut state = State::new(SIZE);
     let opening = SetupRules {
