@@ -50,6 +50,50 @@ mod tests {
     }
 
     #[test]
+    fn pointers_and_draws_in_the_order_of_their_words(rt: HostRuntime) {
+        let (size, kind, stride, region, offset) = (2, 3, 4, 5, 6);
+        let normals = Rec::NormalPointer {
+            kind,
+            stride,
+            region,
+            offset,
+        };
+        let colors = Rec::ColorPointer {
+            size,
+            kind,
+            stride,
+            region,
+            offset,
+        };
+        let coordinates = Rec::TexCoordPointer {
+            size,
+            kind,
+            stride,
+            region,
+            offset,
+        };
+        let elements = Rec::DrawElements {
+            mode: 1,
+            count: -2,
+            kind,
+            region,
+            offset,
+        };
+        let table = [
+            (normals, 0x12, [3, 4, 5, 6].as_slice()),
+            (colors, 0x13, [2, 3, 4, 5, 6].as_slice()),
+            (coordinates, 0x14, [2, 3, 4, 5, 6].as_slice()),
+            (Rec::ClientActiveTexture { texture: 7 }, 0x17, [7].as_slice()),
+            (elements, 0x1E, [1, 0xFFFF_FFFE, 3, 5, 6].as_slice()),
+        ];
+        for (rec, opcode, words) in &table {
+            let spelled = spell(rec);
+            assert_eq!(rt; spelled.opcode(), *opcode);
+            assert_eq!(rt; spelled.words(), *words);
+        }
+    }
+
+    #[test]
     fn a_color_of_bytes_is_one_word_and_red_its_lowest_byte(rt: HostRuntime) {
         let rec = Rec::Color4ub {
             red: 1,
