@@ -5,10 +5,10 @@ use Rattle.std.proofs.Common.{refl, arith, inl, inr}
 use Rattle.std.proofs.lemmas.Int.{ints, by_lt_z}
 use Rattle.std.proofs.lemmas.Bool.Decides.{Decides-int_eq}
 use Rattle.gl_records.specs.declared.prim.Primitive.{Primitive}
-use Rattle.gl_records.specs.declared.prim.PrimKind.{PrimKind}
-use Rattle.gl_records.specs.declared.prim.PrimKind.TheVariants.{Point, Line, Triangle}
+use Rattle.gl_records.specs.declared.prim.PrimKind.TheVariants.{Triangle}
 use Rattle.gl_records.specs.declared.prim.VertexOut.{VertexOut}
-use Rattle.gl_records.specs.Coverage.{center, covers, covers_as, edge, inside, owns, inside_edge}
+use Rattle.gl_records.specs.Center.{center}
+use Rattle.gl_records.specs.Coverage.{covers, edge, inside, owns, inside_edge}
 
 abbrev pub Owned : ℤ → ℤ → Type 0
 Owned dx dy = (pos 0 <ℤ dy) ⊎ ((dy ≡ pos 0) × (pos 0 <ℤ dx))
@@ -63,20 +63,14 @@ three true true false h = cc
 three true false c h = cc
 three false b c h = cc
 
--- the primitive is a triangle, and the centre is inside of its three edges
+-- the centre is inside of the triangle's three edges
 pub record IsCovered (p : Primitive) (x y : ℤ) : Type 0 where
-  pub kind : p.kind ≡ Triangle
   pub first : IsTrue (inside p 0 x y)
   pub second : IsTrue (inside p 1 x y)
   pub third : IsTrue (inside p 2 x y)
 
-covered_as : (k : PrimKind) (p : Primitive) (x y : ℤ) → p.kind ≡ k → IsTrue (covers_as k p x y) → IsCovered p x y
-covered_as Triangle p x y e h =
-    let all = three (inside p 0 x y) (inside p 1 x y) (inside p 2 x y) h in
-    record { kind = e; first = all.0; second = all.1; third = all.2 }
-covered_as Point p x y e h = cc
-covered_as Line p x y e h = cc
-
-pub IsCovered-from : (p : Primitive) (x y : ℤ) → IsTrue (covers p x y) → IsCovered p x y
+pub IsCovered-from : (p : Primitive) (x y : ℤ) → p.kind ≡ Triangle → IsTrue (covers p x y) → IsCovered p x y
 unfolding covers
-IsCovered-from p x y h = covered_as p.kind p x y refl h
+IsCovered-from p x y e h =
+    let all = three (inside p 0 x y) (inside p 1 x y) (inside p 2 x y) (rw e at h) in
+    record { first = all.0; second = all.1; third = all.2 }

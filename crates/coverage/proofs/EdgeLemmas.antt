@@ -3,7 +3,8 @@ use Rattle.std.specs.Prelude.{ℕ, ℤ, pos, ◌+◌, ◌*◌, ◌+ℤ◌, ◌-�
 use Rattle.std.proofs.Common.{arith}
 use Rattle.std.proofs.lemmas.Int.{ints}
 use Rattle.gl_records.specs.declared.prim.VertexOut.{VertexOut}
-use Rattle.gl_records.specs.Coverage.{center, edge, doubled_area}
+use Rattle.gl_records.specs.Center.{center}
+use Rattle.gl_records.specs.Coverage.{edge, doubled_area}
 use Rattle.coverage.proofs.Differences.{IsDifference, var, number, plus, minus, times, same}
 
 pub edge_from : (a b : VertexOut) (x y dx dy up right across along : ℤ)

@@ -11,7 +11,8 @@ use Rattle.coverage.proofs.WeightLemmas.{weight-Triangle}
 use Rattle.gl_records.specs.declared.prim.Primitive.{Primitive}
 use Rattle.gl_records.specs.declared.prim.PrimKind.TheVariants.{Triangle}
 use Rattle.gl_records.specs.declared.prim.VertexOut.{VertexOut}
-use Rattle.gl_records.specs.Coverage.{center, corner, covers, edge, edge_start, edge_end, inside, inside_edge, owns}
+use Rattle.gl_records.specs.Center.{center}
+use Rattle.gl_records.specs.Coverage.{corner, covers, edge, edge_start, edge_end, inside, inside_edge, owns}
 
 -- of a direction and its reverse exactly one owns the centres on it
 pub owns-reverse : (dx dy : ℤ) → ¬ ((dx ≡ pos 0) × (dy ≡ pos 0)) → owns dx dy ≡ not (owns (pos 0 -ℤ dx) (pos 0 -ℤ dy))
@@ -45,8 +46,8 @@ two_sides p q j k x y h =
 pub disjoint : (p q : Primitive) (j k : ℕ) (x y : ℤ) → SharesEdge p q j k → IsTrue (covers p x y) → IsTrue (covers q x y) → ⊥
 disjoint p q j k x y h mine theirs =
     let a = edge_start p j in let b = edge_end p j in let c = edge_start q k in let d = edge_end q k in
-    let first = IsInside-from a b x y (inside-of p x y (IsCovered-from p x y mine) j) in
-    let second = IsInside-from c d x y (inside-of q x y (IsCovered-from q x y theirs) k) in
+    let first = IsInside-from a b x y (inside-of p x y (IsCovered-from p x y h.p_is_triangle mine) j) in
+    let second = IsInside-from c d x y (inside-of q x y (IsCovered-from q x y h.q_is_triangle theirs) k) in
     let back = two_sides p q j k (center x) (center y) h in
     let along : d.x -ℤ c.x ≡ pos 0 -ℤ (b.x -ℤ a.x) = run_back a.x b.x c.x d.x h.start_x h.end_x in
     let across : d.y -ℤ c.y ≡ pos 0 -ℤ (b.y -ℤ a.y) = run_back a.y b.y c.y d.y h.start_y h.end_y in

@@ -3,7 +3,9 @@ pub mod DepthLemmas
 pub mod Differences
 pub mod EdgeLemmas
 pub mod FillRuleLemmas
+pub mod LineLemmas
 pub mod RowLemmas
+pub mod RunLemmas
 pub mod StepLemmas
 pub mod WeightLemmas
 pub mod Whole

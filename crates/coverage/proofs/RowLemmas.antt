@@ -1,11 +1,10 @@
 -- The rows of a tile.
-use Rattle.std.specs.Prelude.{ℕ, ℤ, pos, ◌+◌, ◌^◌, ◌<◌, ◌≤◌, ◌+ℤ◌, ◌-ℤ◌, ◌*ℤ◌, ◌≡◌, ◌⊎◌, Bool, true, false, ◌&&◌, min, bit_and, if◌then◌else◌, replicate, slice_index, unsigned_abs}
+use Rattle.std.specs.Prelude.{ℕ, ℤ, pos, ◌+◌, ◌^◌, ◌<◌, ◌≤◌, ◌+ℤ◌, ◌-ℤ◌, ◌*ℤ◌, ◌≡◌, Bool, true, false, ◌&&◌, min, bit_and, if◌then◌else◌, unsigned_abs}
 use Rattle.std.specs.Int.{bit_at}
-use Rattle.std.proofs.Common.{refl, inl, inr, ◌∙◌, ap, arith, FitsSigned, w64}
+use Rattle.std.proofs.Common.{refl, ◌∙◌, ap, arith, FitsSigned, w64}
 use Rattle.std.proofs.lemmas.Int.{ints}
-use Rattle.std.proofs.lemmas.Nat.Bits.{bit_at_and, bit_at-zero}
-use Rattle.std.proofs.lemmas.List.{get_or-replicate}
-use Rattle.coverage.specs.declared.tile_rows.EdgeSteps.{EdgeSteps}
+use Rattle.std.proofs.lemmas.Nat.Bits.{bit_at_and}
+use Rattle.coverage.specs.declared.triangle.EdgeSteps.{EdgeSteps}
 use Rattle.coverage.specs.Steps.{margin, row_bit}
 use Rattle.coverage.proofs.FillRuleLemmas.{covered_by}
 use Rattle.coverage.proofs.StepLemmas.{inside-stepped}
@@ -14,6 +13,8 @@ use Rattle.gl_records.specs.declared.prim.Primitive.{Primitive}
 use Rattle.gl_records.specs.declared.prim.PrimKind.TheVariants.{Point, Line, Triangle}
 use Rattle.gl_records.specs.declared.prim.VertexOut.{VertexOut}
 use Rattle.gl_records.specs.Coverage.{corner, covers, inside, inside_edge}
+use Rattle.gl_records.specs.LineCoverage.{line_covers}
+use Rattle.gl_records.specs.PointCoverage.{point_covers}
 
 -- the start of row r of a tile
 pub start_fits : (value up : ℤ) (r : ℕ) → r < 16 → unsigned_abs value ≤ 2 ^ 57 → unsigned_abs up ≤ 2 ^ 37
@@ -64,12 +65,12 @@ exact_bit p d e f x y r i bit kind first second third is =
     (bits_of_three (inside p 0 (pos (x + i)) (pos (y + r))) (inside p 1 (pos (x + i)) (pos (y + r)))
     (inside p 2 (pos (x + i)) (pos (y + r))))
 
-not_covered : (p : Primitive) (x y : ℤ) → (p.kind ≡ Point) ⊎ (p.kind ≡ Line) → covers p x y ≡ false
+pub line_bit : (p : Primitive) (x y : ℤ) (bit : ℕ) → p.kind ≡ Line
+    → bit ≡ (if line_covers (corner p 0) (corner p 1) p.width x y then 1 else 0) → bit ≡ (if covers p x y then 1 else 0)
 unfolding covers
-not_covered p x y (inl e) = rw e
-not_covered p x y (inr e) = rw e
+line_bit p x y bit e is = rw e is
 
-pub none_bit : (p : Primitive) (x y r i : ℕ) → (p.kind ≡ Point) ⊎ (p.kind ≡ Line) → r < 16
-    → bit_at (slice_index (replicate 16 0) r) i ≡ (if covers p (pos (x + i)) (pos (y + r)) then 1 else 0)
-none_bit p x y r i other h =
-    rw (get_or-replicate {A = ℕ} 16 r 0 0 h, not_covered p (pos (x + i)) (pos (y + r)) other) (bit_at-zero i)
+pub point_bit : (p : Primitive) (x y : ℤ) (bit : ℕ) → p.kind ≡ Point
+    → bit ≡ (if point_covers (corner p 0) p.width x y then 1 else 0) → bit ≡ (if covers p x y then 1 else 0)
+unfolding covers
+point_bit p x y bit e is = rw e is

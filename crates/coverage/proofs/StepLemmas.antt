@@ -12,7 +12,8 @@ use Rattle.coverage.proofs.Whole.{unsigned_abs-product}
 use Rattle.coverage.specs.Steps.{margin, row_bit}
 use Rattle.coverage.proofs.EdgeLemmas.{edge-step}
 use Rattle.gl_records.specs.declared.prim.VertexOut.{VertexOut}
-use Rattle.gl_records.specs.Coverage.{center, edge, owns, inside_edge}
+use Rattle.gl_records.specs.Center.{center}
+use Rattle.gl_records.specs.Coverage.{edge, owns, inside_edge}
 
 -- between two values of a row that are not below 0 there is none below 0
 above_between : (value step : ℤ) (k : ℕ) → k < 16 → pos 0 ≤ℤ value → pos 0 ≤ℤ (value +ℤ (pos 15 *ℤ step))
@@ -59,22 +60,21 @@ stepped_small value step k p q r =
     let small = unsigned_abs-product (pos k) step 16 (2 ^ 58) p r in
     omega (arith, ints)
 
--- what the bits of the centres before k + 1 are, where the value at centre k is not below 0
-pub set_done : (value step : ℤ) (k bits : ℕ) → k < 16 → pos 0 ≤ℤ (value +ℤ (pos k *ℤ step))
-    → ((j : ℕ) → j < k → bit_at bits j ≡ row_bit value step j)
-    → (j : ℕ) → j < k + 1 → bit_at (bit_or bits (1 * 2 ^ k % 2 ^ bits_of w16)) j ≡ row_bit value step j
-set_done value step k bits within h done =
+-- what the bits before k + 1 are to be, where bit k is set
+pub set_done : (wanted : ℕ → ℕ) (k bits : ℕ) → k < 16 → wanted k ≡ 1 → ((j : ℕ) → j < k → bit_at bits j ≡ wanted j)
+    → (j : ℕ) → j < k + 1 → bit_at (bit_or bits (1 * 2 ^ k % 2 ^ bits_of w16)) j ≡ wanted j
+set_done wanted k bits within h done =
     below_more _ _
     (λ j less. let other : j ≢ k = omega arith in bit_at_set_other w16 bits k within j other ∙ done j less)
-    (bit_at_set_same w16 bits k within ∙ sym (row_bit-above value step k h))
+    (bit_at_set_same w16 bits k within ∙ sym h)
 
--- and where it is below 0
-pub keep_done : (value step : ℤ) (k bits : ℕ) → (value +ℤ (pos k *ℤ step)) <ℤ pos 0
-    → ((j : ℕ) → j < k → bit_at bits j ≡ row_bit value step j) → ((j : ℕ) → k ≤ j → bit_at bits j ≡ 0)
-    → (j : ℕ) → j < k + 1 → bit_at bits j ≡ row_bit value step j
-keep_done value step k bits h done blank =
+-- and where it is not
+pub keep_done : (wanted : ℕ → ℕ) (k bits : ℕ) → wanted k ≡ 0
+    → ((j : ℕ) → j < k → bit_at bits j ≡ wanted j) → ((j : ℕ) → k ≤ j → bit_at bits j ≡ 0)
+    → (j : ℕ) → j < k + 1 → bit_at bits j ≡ wanted j
+keep_done wanted k bits h done blank =
     let least : k ≤ k = omega arith in
-    below_more _ _ done (blank k least ∙ sym (row_bit-below value step k h))
+    below_more _ _ done (blank k least ∙ sym h)
 
 -- the bits from k + 1 on stay blank
 pub set_blank : (k bits : ℕ) → k < 16 → ((j : ℕ) → k ≤ j → bit_at bits j ≡ 0)

@@ -1,15 +1,19 @@
--- The weights of a triangle's corners at a pixel.
-use Rattle.std.specs.Prelude.{ℕ, ℤ, pos, negsuc, ◌*◌, ◌+ℤ◌, ◌-ℤ◌, ◌*ℤ◌, ◌≤ℤ◌, ◌≡◌, ◌^◌, ◌≤◌, ◌⊎◌, [], ◌∷◌, IsTrue, unsigned_abs}
-use Rattle.std.proofs.Common.{arith, inl, inr, FitsSigned, w64}
+-- The weights of a primitive's corners at a pixel.
+use Rattle.std.specs.Prelude.{ℕ, ℤ, pos, negsuc, ◌*◌, ◌+ℤ◌, ◌-ℤ◌, ◌*ℤ◌, ◌≤ℤ◌, ◌≡◌, ◌^◌, ◌≤◌, [], ◌∷◌, IsTrue, unsigned_abs}
+use Rattle.std.proofs.Common.{refl, arith, FitsSigned, w64}
 use Rattle.std.proofs.lemmas.Int.{ints}
 use Rattle.gl_records.specs.declared.prim.Primitive.{Primitive}
 use Rattle.gl_records.specs.declared.prim.PrimKind.TheVariants.{Point, Line, Triangle}
 use Rattle.gl_records.specs.declared.prim.VertexOut.{VertexOut}
-use Rattle.gl_records.specs.Coverage.{center, corner, covers, edge, edge_start, edge_end, doubled_area}
+use Rattle.gl_records.specs.Center.{center}
+use Rattle.gl_records.specs.Coverage.{corner, covers, edge, edge_start, edge_end, doubled_area}
+use Rattle.gl_records.specs.LineCoverage.{line_weight}
+use Rattle.gl_records.specs.declared.prim.PrimKind.{PrimKind}
 use Rattle.gl_records.specs.Valid.{IsCornerInRange, IsInRange}
 use Rattle.gl_records.specs.Weights.{AreWeights, only_first, weight, weights}
 use Rattle.coverage.proofs.CoverLemmas.{IsCovered-from, IsInside, IsInside-from, sum_positive}
 use Rattle.coverage.proofs.EdgeLemmas.{edge-sum}
+use Rattle.coverage.proofs.LineLemmas.{are_line_weights}
 use Rattle.coverage.proofs.Whole.{unsigned_abs-product}
 
 pub weight-Triangle : (p : Primitive) (k : ℕ) (x y : ℤ) → p.kind ≡ Triangle
@@ -21,7 +25,7 @@ pub weight-Point : (p : Primitive) (k : ℕ) (x y : ℤ) → p.kind ≡ Point �
 unfolding weight
 weight-Point p k x y e = rw e
 
-pub weight-Line : (p : Primitive) (k : ℕ) (x y : ℤ) → p.kind ≡ Line → weight p k x y ≡ only_first k
+pub weight-Line : (p : Primitive) (k : ℕ) (x y : ℤ) → p.kind ≡ Line → weight p k x y ≡ line_weight (corner p 0) (corner p 1) k x y
 unfolding weight
 weight-Line p k x y e = rw e
 
@@ -56,16 +60,44 @@ are_weights a b c x y u v w p q r first second third area = record {
   sum_to = rw area (edge_to a b c p q r);
 }
 
-pub AreWeights-covered : (p : Primitive) (x y : ℤ) → IsInRange p → IsTrue (covers p x y)
+AreWeights-triangle : (p : Primitive) (x y : ℤ) → IsInRange p → p.kind ≡ Triangle → IsTrue (covers p x y)
     → AreWeights (weight p 0 x y) (weight p 1 x y) (weight p 2 x y)
-AreWeights-covered p x y range h =
-    let is = IsCovered-from p x y h in
-    rw (weight-Triangle p 0 x y is.kind, weight-Triangle p 1 x y is.kind, weight-Triangle p 2 x y is.kind)
+AreWeights-triangle p x y range kind h =
+    let is = IsCovered-from p x y kind h in
+    rw (weight-Triangle p 0 x y kind, weight-Triangle p 1 x y kind, weight-Triangle p 2 x y kind)
     (are_weights (corner p 0) (corner p 1) (corner p 2) x y _ _ _ range.first range.second range.third
     (IsInside-from (corner p 1) (corner p 2) x y is.first)
     (IsInside-from (corner p 2) (corner p 0) x y is.second)
     (IsInside-from (corner p 0) (corner p 1) x y is.third)
     (edge-sum (corner p 0) (corner p 1) (corner p 2) (center x) (center y)))
+
+AreWeights-line : (p : Primitive) (x y : ℤ) → IsInRange p → p.kind ≡ Line → IsTrue (covers p x y)
+    → AreWeights (weight p 0 x y) (weight p 1 x y) (weight p 2 x y)
+unfolding covers
+AreWeights-line p x y range kind h =
+    rw (weight-Line p 0 x y kind, weight-Line p 1 x y kind, weight-Line p 2 x y kind)
+    (are_line_weights (corner p 0) (corner p 1) p.width x y range.first range.second (rw kind at h))
+
+AreWeights-point : (p : Primitive) (x y : ℤ) → p.kind ≡ Point → AreWeights (weight p 0 x y) (weight p 1 x y) (weight p 2 x y)
+AreWeights-point p x y kind =
+    rw (weight-Point p 0 x y kind, weight-Point p 1 x y kind, weight-Point p 2 x y kind)
+    (record {
+      first_from = omega (arith, ints);
+      second_from = omega (arith, ints);
+      third_from = omega (arith, ints);
+      sum_above = omega (arith, ints);
+      sum_to = omega (arith, ints);
+    })
+
+AreWeights-kind : (k : PrimKind) (p : Primitive) (x y : ℤ) → IsInRange p → p.kind ≡ k → IsTrue (covers p x y)
+    → AreWeights (weight p 0 x y) (weight p 1 x y) (weight p 2 x y)
+AreWeights-kind Triangle p x y range kind h = AreWeights-triangle p x y range kind h
+AreWeights-kind Line p x y range kind h = AreWeights-line p x y range kind h
+AreWeights-kind Point p x y range kind h = AreWeights-point p x y kind
+
+pub AreWeights-covered : (p : Primitive) (x y : ℤ) → IsInRange p → IsTrue (covers p x y)
+    → AreWeights (weight p 0 x y) (weight p 1 x y) (weight p 2 x y)
+AreWeights-covered p x y range h = AreWeights-kind p.kind p x y range refl h
 
 pub weights-Triangle : (p : Primitive) (x y u v w : ℤ) → p.kind ≡ Triangle
     → u ≡ edge (corner p 1) (corner p 2) (center x) (center y)
@@ -74,10 +106,13 @@ pub weights-Triangle : (p : Primitive) (x y u v w : ℤ) → p.kind ≡ Triangle
 weights-Triangle p x y u v w e first second third =
     rw (weight-Triangle p 0 x y e, weight-Triangle p 1 x y e, weight-Triangle p 2 x y e, first, second, third)
 
-pub weights-other : (p : Primitive) (x y : ℤ) → (p.kind ≡ Point) ⊎ (p.kind ≡ Line)
-    → pos 1 ∷ pos 0 ∷ pos 0 ∷ [] ≡ weights p x y
-weights-other p x y (inl e) = rw (weight-Point p 0 x y e, weight-Point p 1 x y e, weight-Point p 2 x y e)
-weights-other p x y (inr e) = rw (weight-Line p 0 x y e, weight-Line p 1 x y e, weight-Line p 2 x y e)
+pub weights-Line : (p : Primitive) (x y : ℤ) → p.kind ≡ Line
+    → line_weight (corner p 0) (corner p 1) 0 x y ∷ line_weight (corner p 0) (corner p 1) 1 x y ∷ line_weight (corner p 0) (corner p 1) 2 x y ∷ []
+    ≡ weights p x y
+weights-Line p x y e = rw (weight-Line p 0 x y e, weight-Line p 1 x y e, weight-Line p 2 x y e)
+
+pub weights-Point : (p : Primitive) (x y : ℤ) → p.kind ≡ Point → pos 1 ∷ pos 0 ∷ pos 0 ∷ [] ≡ weights p x y
+weights-Point p x y e = rw (weight-Point p 0 x y e, weight-Point p 1 x y e, weight-Point p 2 x y e)
 
 -- no single weight is above the sum's bound
 pub weight-to : (u v w : ℤ) → AreWeights u v w → (u ≤ℤ pos (2 ^ 36)) × (v ≤ℤ pos (2 ^ 36)) × (w ≤ℤ pos (2 ^ 36))

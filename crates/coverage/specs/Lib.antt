@@ -1,2 +1,3 @@
 pub mod FillRule
+pub mod Runs
 pub mod Steps

@@ -1,7 +1,8 @@
 -- An edge function stepped over the centres of a tile (this project's profile).
 use Rattle.std.specs.Prelude.{ℕ, ℤ, pos, ◌+ℤ◌, ◌-ℤ◌, ◌*ℤ◌, int_le, if◌then◌else◌}
 use Rattle.gl_records.specs.declared.prim.VertexOut.{VertexOut}
-use Rattle.gl_records.specs.Coverage.{center, edge, owns}
+use Rattle.gl_records.specs.Center.{center}
+use Rattle.gl_records.specs.Coverage.{edge, owns}
 
 -- the edge function at pixel (x, y), less 1 where the edge does not own the centres on it: the centre is
 -- inside exactly where this is not below 0

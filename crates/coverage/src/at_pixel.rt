@@ -6,12 +6,14 @@ ghost use Rattle.gl_records.specs.Valid.{IsInRange};
 ghost use Rattle.gl_records.specs.Weights.{AreWeights, weight, weights as weights_of};
 
 use crate::edges::edge;
+use crate::line_weights::line_weights;
 use gl_records::{GREATEST_DEPTH, Prim, PrimKind};
 
 /// How much each corner counts at the centre of pixel (x, y). At a triangle it is the edge function of the edge
 /// across from the corner, which is twice the area between this edge and the centre, in units of 1/256 pixel
-/// (OpenGL 1.5, 3.5.1). At a point the first corner alone counts, by 1. Where the primitive covers the pixel,
-/// none is below 0 and their sum lies within 1 and 2^36.
+/// (OpenGL 1.5, 3.5.1). At a line an end counts by how far the centre is from the other end, along the axis that the
+/// line is longer on, in units of 1/16 pixel. At a point the first corner alone counts, by 1. Where the primitive
+/// covers the pixel, none is below 0 and their sum lies within 1 and 2^36.
 pub fn weights(p: &Prim, x: i32, y: i32) -> [i64; 3]
     requires { IsInRange p.now }
     ensures value { result ≡ weights_of p.now x y }
@@ -21,7 +23,8 @@ pub fn weights(p: &Prim, x: i32, y: i32) -> [i64; 3]
     let [a, b, c] = &p.verts;
     match p.kind {
         PrimKind::Triangle => [edge(b, c, x, y), edge(c, a, x, y), edge(a, b, x, y)],
-        PrimKind::Point | PrimKind::Line => [1, 0, 0],
+        PrimKind::Line => line_weights(a, b, x, y),
+        PrimKind::Point => [1, 0, 0],
     }
 }
 

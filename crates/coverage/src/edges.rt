@@ -1,5 +1,6 @@
 ghost use Rattle.std.specs.Prelude.{◌≡◌, ◌≤◌, ◌*◌, ◌^◌, ◌-ℤ◌, ◌*ℤ◌, unsigned_abs};
-ghost use Rattle.gl_records.specs.Coverage.{center as center_of, edge as edge_function};
+ghost use Rattle.gl_records.specs.Center.{center as center_of};
+ghost use Rattle.gl_records.specs.Coverage.{edge as edge_function};
 ghost use Rattle.gl_records.specs.Valid.{IsCornerInRange};
 
 use fx_arith::span;
@@ -18,14 +19,14 @@ pub fn edge(a: &VertexOut, b: &VertexOut, x: i32, y: i32) -> i64
 }
 
 /// How far the centre of the pixels of a column or a row lies beyond `a`.
-fn reach(a: i32, pixel: i32) -> i64
+pub(crate) fn reach(a: i32, pixel: i32) -> i64
     ensures value { result ≡ center_of pixel -ℤ a }
     ensures small { unsigned_abs result ≤ 2 ^ 37 }
 {
     16 * i64::from(pixel) + 8 - i64::from(a)
 }
 
-fn product(run: i64, reach: i64) -> i64
+pub(crate) fn product(run: i64, reach: i64) -> i64
     requires run_small { unsigned_abs run ≤ 2 ^ 18 }
     requires reach_small { unsigned_abs reach ≤ 2 ^ 37 }
     ensures value { result ≡ run *ℤ reach }

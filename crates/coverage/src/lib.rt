@@ -16,9 +16,14 @@
 mod at_pixel;
 mod edges;
 mod fill_rule;
+mod line;
+mod line_weights;
+mod point;
+mod run_bits;
 #[cfg(test)]
 mod tests;
 mod tile_rows;
+mod triangle;
 
 pub use at_pixel::{depth_at, weights};
 pub use fill_rule::shared_edge;

@@ -1,15 +1,14 @@
--- Which pixels a primitive covers (OpenGL 1.5, 3.5.1): one pixel at a time, by its centre. Places are in
--- units of 1/16 pixel, from the lower left of the surface.
-use Rattle.std.specs.Prelude.{ℕ, zero, suc, ℤ, pos, ◌+ℤ◌, ◌-ℤ◌, ◌*ℤ◌, int_lt, Bool, false, ◌&&◌, ◌||◌, [], slice_index_or}
+-- Which pixels a primitive covers, one pixel at a time. A triangle covers those whose centres lie inside of its
+-- edges (OpenGL 1.5, 3.5.1). Places are in units of 1/16 pixel, from the lower left of the surface.
+use Rattle.std.specs.Prelude.{ℕ, zero, suc, ℤ, pos, ◌-ℤ◌, ◌*ℤ◌, int_lt, Bool, ◌&&◌, ◌||◌, [], slice_index_or}
 use Rattle.std.specs.Ordering.{int_eq}
 use Rattle.gl_records.specs.declared.prim.Primitive.{Primitive}
 use Rattle.gl_records.specs.declared.prim.PrimKind.{PrimKind}
 use Rattle.gl_records.specs.declared.prim.PrimKind.TheVariants.{Point, Line, Triangle}
 use Rattle.gl_records.specs.declared.prim.VertexOut.{VertexOut}
-
--- the centre of the pixels of a column or of a row
-abbrev pub center : ℤ → ℤ
-center at = (pos 16 *ℤ at) +ℤ pos 8
+use Rattle.gl_records.specs.Center.{center}
+use Rattle.gl_records.specs.LineCoverage.{line_covers}
+use Rattle.gl_records.specs.PointCoverage.{point_covers}
 
 -- twice the area of the triangle with the corners (ax, ay), (bx, by) and (cx, cy): above 0 where they run
 -- counterclockwise
@@ -58,8 +57,8 @@ inside p k x y = inside_edge (edge_start p k) (edge_end p k) x y
 
 abbrev pub covers_as : PrimKind → Primitive → ℤ → ℤ → Bool
 covers_as Triangle p x y = inside p 0 x y && inside p 1 x y && inside p 2 x y
-covers_as Point p x y = false  -- points and lines are not drawn yet
-covers_as Line p x y = false
+covers_as Line p x y = line_covers (corner p 0) (corner p 1) p.width x y
+covers_as Point p x y = point_covers (corner p 0) p.width x y
 
 -- the primitive covers pixel (x, y)
 unfoldable pub covers : Primitive → ℤ → ℤ → Bool

@@ -3,6 +3,7 @@ pub mod AlphaTest
 pub mod Blending
 pub mod BytesAt
 pub mod Captured
+pub mod Center
 pub mod Clear
 pub mod ClipVertex
 pub mod Color
@@ -14,8 +15,10 @@ pub mod DepthTest
 pub mod Draw
 pub mod Fragment
 pub mod Interpolation
+pub mod LineCoverage
 pub mod LogicOp
 pub mod PixelBox
+pub mod PointCoverage
 pub mod SetupRules
 pub mod Size
 pub mod StencilTest

@@ -1,6 +1,6 @@
 use Rattle.std.proofs.Common.{arith, rules, FitsSigned, w64, w32, ◌≡◌, ◌-ℤ◌, ◌^◌}
 use Rattle.std.proofs.lemmas.Int.{ints, to_z-of_z}
-use Rattle.gl_records.specs.Coverage.{center}
+use Rattle.gl_records.specs.Center.{center}
 use Rattle.coverage.proofs.EdgeLemmas.{edge_from}
 use Rattle.coverage.proofs.Whole.{unsigned_abs-difference, fits_from_abs}
 use Rattle.coverage.proofs.edges.edge.Goals as goal

@@ -1,5 +1,5 @@
 use Rattle.gl_records.specs.Coverage.{corner}
-use Rattle.coverage.proofs.RowLemmas.{IsStepsOf, exact_bit, none_bit}
+use Rattle.coverage.proofs.RowLemmas.{IsStepsOf, exact_bit, line_bit, point_bit}
 use Rattle.coverage.proofs.tile_rows.rows.Goals as goal
 
 pub returns-in-Triangle-clause-exact : goal.returns-in-Triangle-clause-exact
@@ -13,6 +13,10 @@ returns-in-Triangle-clause-exact c r i down along =
     exact_bit c.args.p.now c.steps.result c.steps-in-Triangle.result c.steps-in-Triangle-2.result c.args.tile.x0 c.args.tile.y0 r i _
     c.in-Triangle.is first second third (c.triangle_rows.ensures r i down along)
 
+pub returns-in-Line-clause-exact : goal.returns-in-Line-clause-exact
+returns-in-Line-clause-exact c r i down along =
+    line_bit c.args.p.now _ _ _ c.in-Line.is (c.line_rows.ensures r i down along)
+
 pub returns-in-Point-clause-exact : goal.returns-in-Point-clause-exact
 returns-in-Point-clause-exact c r i down along =
-    none_bit c.args.p.now c.args.tile.x0 c.args.tile.y0 r i c.in-Point.is down
+    point_bit c.args.p.now _ _ _ c.in-Point.is (c.point_rows.ensures r i down along)

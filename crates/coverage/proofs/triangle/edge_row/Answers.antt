@@ -1,7 +1,7 @@
 use Rattle.std.proofs.Common.{arith, pos, ◌≤ℤ◌, ◌<ℤ◌, ◌+ℤ◌, ◌*ℤ◌}
 use Rattle.std.proofs.lemmas.Int.{ints}
 use Rattle.coverage.proofs.StepLemmas.{all_set, none_set}
-use Rattle.coverage.proofs.tile_rows.edge_row.Goals as goal
+use Rattle.coverage.proofs.triangle.edge_row.Goals as goal
 
 pub returns-then-last-ge0 : goal.returns-then-last-ge0
 returns-then-last-ge0 c =

@@ -1,7 +1,7 @@
 use Rattle.std.proofs.Common.{◌≡◌, ℕ, ◌<◌, ◌≤◌, pos, ◌+ℤ◌, ◌*ℤ◌}
 use Rattle.std.specs.Int.{bit_at}
 use Rattle.coverage.specs.Steps.{row_bit}
-use Rattle.coverage.proofs.tile_rows.stepped_row.Given as goal
+use Rattle.coverage.proofs.triangle.stepped_row.Given as goal
 
 abbrev pub invariant-loop-k : goal.invariant-loop-k
 invariant-loop-k l = record {

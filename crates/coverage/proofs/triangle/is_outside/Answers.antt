@@ -1,7 +1,7 @@
 use Rattle.std.proofs.Common.{rules, FitsSigned, w64, pos, ◌+ℤ◌, ◌*ℤ◌}
 use Rattle.std.proofs.lemmas.Int.{to_z-of_z}
 use Rattle.coverage.proofs.StepLemmas.{TileFits-from, all_below, none_inside}
-use Rattle.coverage.proofs.tile_rows.is_outside.Goals as goal
+use Rattle.coverage.proofs.triangle.is_outside.Goals as goal
 
 pub overflow_add-top-2 : goal.overflow_add-top-2
 overflow_add-top-2 c =

@@ -2,7 +2,7 @@ use Rattle.std.proofs.Common.{rules, sym, ◌∙◌, ◌≡◌, ◌-ℤ◌, pos,
 use Rattle.std.proofs.lemmas.Int.{to_z-of_z}
 use Rattle.gl_records.specs.Coverage.{owns}
 use Rattle.coverage.proofs.StepLemmas.{margin-owned, margin-open, less_one_fits}
-use Rattle.coverage.proofs.tile_rows.margin.Goals as goal
+use Rattle.coverage.proofs.triangle.margin.Goals as goal
 
 pub returns-then-owns-clause-value : goal.returns-then-owns-clause-value
 returns-then-owns-clause-value c =

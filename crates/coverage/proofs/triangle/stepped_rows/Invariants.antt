@@ -1,7 +1,7 @@
 use Rattle.std.proofs.Common.{◌≡◌, ℕ, ◌<◌, pos, ◌+ℤ◌, ◌*ℤ◌, min, length, slice_index}
 use Rattle.std.specs.Int.{bit_at}
 use Rattle.coverage.specs.Steps.{row_bit}
-use Rattle.coverage.proofs.tile_rows.stepped_rows.Given as goal
+use Rattle.coverage.proofs.triangle.stepped_rows.Given as goal
 
 abbrev pub invariant-loop-r : goal.invariant-loop-r
 invariant-loop-r l = record {

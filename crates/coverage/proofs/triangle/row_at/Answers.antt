@@ -1,7 +1,7 @@
 use Rattle.std.proofs.Common.{arith, rules, ◌≡◌, ◌+ℤ◌, ◌*ℤ◌, pos, FitsSigned, w64, to_z}
 use Rattle.std.proofs.lemmas.Int.{ints, to_z-of_z}
 use Rattle.coverage.proofs.RowLemmas.{start_fits}
-use Rattle.coverage.proofs.tile_rows.row_at.Goals as goal
+use Rattle.coverage.proofs.triangle.row_at.Goals as goal
 
 pub returns : goal.returns
 returns c =

@@ -2,9 +2,9 @@ use Rattle.std.proofs.Common.{arith, ◌≡◌, ℕ, ◌+◌, ◌<◌, ◌≤◌
 use Rattle.std.specs.Int.{bit_at}
 use Rattle.std.proofs.lemmas.Int.{ints, to_z-of_z}
 use Rattle.coverage.specs.Steps.{row_bit}
-use Rattle.coverage.proofs.StepLemmas.{set_done, keep_done, set_blank, stepped, stepped_small}
-use Rattle.coverage.proofs.tile_rows.stepped_row.Goals as goal
-use Rattle.coverage.proofs.tile_rows.stepped_row.Goals.{then-at-ge0, else-at-ge0}
+use Rattle.coverage.proofs.StepLemmas.{row_bit-above, row_bit-below, set_done, keep_done, set_blank, stepped, stepped_small}
+use Rattle.coverage.proofs.triangle.stepped_row.Goals as goal
+use Rattle.coverage.proofs.triangle.stepped_row.Goals.{then-at-ge0, else-at-ge0}
 
 pub overflow_add-at : goal.overflow_add-at
 overflow_add-at c =
@@ -33,11 +33,11 @@ loop-k-preserved c =
       done = elim c.if-at-ge0.branch [
         | then-at-ge0 w ↦
             let above : pos 0 ≤ℤ (c.args.value +ℤ (pos c.loop-k.k *ℤ c.args.step)) = omega (arith, ints) in
-            rw w.bits-is (set_done c.args.value c.args.step c.loop-k.k c.loop-k.bits c.loop-k-test.true above done)
+            rw w.bits-is (set_done (row_bit c.args.value c.args.step) c.loop-k.k c.loop-k.bits c.loop-k-test.true (row_bit-above c.args.value c.args.step c.loop-k.k above) done)
         | else-at-ge0 w ↦
             let below : (c.args.value +ℤ (pos c.loop-k.k *ℤ c.args.step)) <ℤ pos 0 = omega (arith, ints) in
             rw w.bits-is
-            (keep_done c.args.value c.args.step c.loop-k.k c.loop-k.bits below done c.loop-k.invariant.blank)
+            (keep_done (row_bit c.args.value c.args.step) c.loop-k.k c.loop-k.bits (row_bit-below c.args.value c.args.step c.loop-k.k below) done c.loop-k.invariant.blank)
       ];
       blank = elim c.if-at-ge0.branch [
         | then-at-ge0 w ↦ rw w.bits-is (set_blank c.loop-k.k c.loop-k.bits c.loop-k-test.true c.loop-k.invariant.blank)
