@@ -7,7 +7,7 @@ use Rattle.fx_arith.proofs.Floors.{floor_div-<, floor_div-multiple_within, floor
 use Rattle.gl_records.specs.declared.pixel_box.PixelBox.{PixelBox}
 use Rattle.gl_records.specs.declared.prim.VertexOut.{VertexOut}
 use Rattle.gl_records.specs.declared.size.Size.{Size}
-use Rattle.gl_records.specs.Coverage.{center}
+use Rattle.gl_records.specs.Center.{center}
 use Rattle.gl_records.specs.PixelBox.{holds}
 use Rattle.primitive_setup.specs.Bounds.{bounds_of, end_at, first_from, greatest, least, HoldsCenters, IsCenterWithin}
 use Rattle.primitive_setup.specs.Offset.{with_offset}
@@ -37,24 +37,24 @@ center_at_most place side x h =
     (omega (arith, ints, clamps, h), omega (arith, ints, clamps, h, within))
 
 -- ---- both axes
-four_true : (a b c d : Bool) → IsTrue a → IsTrue b → IsTrue c → IsTrue d → IsTrue (a && b && c && d)
+pub four_true : (a b c d : Bool) → IsTrue a → IsTrue b → IsTrue c → IsTrue d → IsTrue (a && b && c && d)
 four_true true true true true p q r s = refl
 four_true true true true false p q r s = cc
 four_true true true false d p q r s = cc
 four_true true false c d p q r s = cc
 four_true false b c d p q r s = cc
 
-all_true : (a b c d : Bool) → IsTrue (a && b && c && d) → IsTrue a × IsTrue b × IsTrue c × IsTrue d
+pub all_true : (a b c d : Bool) → IsTrue (a && b && c && d) → IsTrue a × IsTrue b × IsTrue c × IsTrue d
 all_true true true true true h = (refl, refl, refl, refl)
 all_true true true true false h = cc
 all_true true true false d h = cc
 all_true true false c d h = cc
 all_true false b c d h = cc
 
-le_true : (a b : ℤ) → a ≤ℤ b → IsTrue (int_le a b)
+pub le_true : (a b : ℤ) → a ≤ℤ b → IsTrue (int_le a b)
 le_true a b h = let e : true ≡ int_le a b = omega (arith, ints) in sym e
 
-lt_true : (a b : ℤ) → a <ℤ b → IsTrue (int_lt a b)
+pub lt_true : (a b : ℤ) → a <ℤ b → IsTrue (int_lt a b)
 lt_true a b h = let e : true ≡ int_lt a b = omega (arith, ints) in sym e
 
 -- the bounds hold each pixel of the surface whose centre lies in the box

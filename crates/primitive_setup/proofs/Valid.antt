@@ -8,7 +8,8 @@ use Rattle.gl_records.specs.declared.pixel_box.PixelBox.{PixelBox}
 use Rattle.gl_records.specs.declared.prim.PrimKind.TheVariants.{Triangle}
 use Rattle.gl_records.specs.declared.prim.VertexOut.{VertexOut}
 use Rattle.gl_records.specs.declared.size.Size.{Size}
-use Rattle.gl_records.specs.Coverage.{center, covers, doubled_area, edge, inside_edge, owns}
+use Rattle.gl_records.specs.Center.{center}
+use Rattle.gl_records.specs.Coverage.{covers, doubled_area, edge, inside_edge, owns}
 use Rattle.gl_records.specs.Valid.{IsBoxOf, IsCornerInRange, IsValid}
 use Rattle.primitive_setup.specs.Bounds.{bounds_of, is_empty, IsCenterWithin}
 use Rattle.primitive_setup.specs.Offset.{with_offset}
@@ -64,7 +65,7 @@ corner_in_range offset v from to h = record {
   q_to = h.q_to;
 }
 
-either_false : (a b : Bool) → a || b ≡ false → (a ≡ false) × (b ≡ false)
+pub either_false : (a b : Bool) → a || b ≡ false → (a ≡ false) × (b ≡ false)
 either_false true b h = cc
 either_false false b h = (refl, h)
 

@@ -1,4 +1,4 @@
--- What set-up makes of a primitive's clipped vertices (OpenGL ES 1.1.12, 2.10.1, 2.12.1 and 3.5).
+-- What set-up makes of a primitive's clipped vertices (OpenGL ES 1.1.12, 2.10.1, 2.12.1 and 3.3 to 3.5).
 use Rattle.std.specs.Prelude.{ℕ, ℤ, pos, Bool, ◌||◌, List, [], ◌∷◌, Option, Some, None, int_lt, if◌then◌else◌, unsigned_abs}
 use Rattle.std.specs.Ordering.{int_eq}
 use Rattle.fx_arith.specs.declared.fx.Fx.{Fx}
@@ -14,6 +14,8 @@ use Rattle.primitive_setup.specs.declared.window.Place.{Place}
 use Rattle.primitive_setup.specs.Bounds.{bounds_of, is_empty}
 use Rattle.primitive_setup.specs.Facing.{faces_front, is_culled, takes_back_colors}
 use Rattle.primitive_setup.specs.Offset.{with_offset, offset_of}
+use Rattle.primitive_setup.specs.LineSetup.{line_of}
+use Rattle.primitive_setup.specs.PointSetup.{point_of}
 use Rattle.gl_records.specs.ClipVertex.{vertex}
 use Rattle.gl_records.specs.Coverage.{doubled_area}
 use Rattle.primitive_setup.specs.Window.{corner_of, place_of}
@@ -50,8 +52,8 @@ area_of a b c = doubled_area a.x a.y b.x b.y c.x c.y
 unfoldable pub triangle_of : SetupRules → Size → ClipVertex → ClipVertex → ClipVertex → Option Primitive
 triangle_of rules size a b c = visible_triangle rules size (area_of (place_of rules a) (place_of rules b) (place_of rules c)) a b c
 
--- a primitive by its kind: points and lines are not set up yet
+-- a primitive by its kind: of a line the first two vertices count, of a point the first
 abbrev pub setup_of : SetupRules → PrimKind → List ClipVertex → Size → Option Primitive
 setup_of rules Triangle vertices size = triangle_of rules size (vertex vertices 0) (vertex vertices 1) (vertex vertices 2)
-setup_of rules Point vertices size = None
-setup_of rules Line vertices size = None
+setup_of rules Line vertices size = line_of rules size (vertex vertices 0) (vertex vertices 1)
+setup_of rules Point vertices size = point_of rules size (vertex vertices 0)

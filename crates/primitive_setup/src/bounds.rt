@@ -1,5 +1,6 @@
 ghost use Rattle.std.specs.Prelude.{◌≡◌, ◌↔◌, ℕ, ◌<◌, ◌≤ℤ◌, pos, negsuc, IsTrue};
-ghost use Rattle.primitive_setup.specs.Bounds.{bounds_of, end_at as end_of, first_from as first_of, greatest as greatest_of, is_empty as holds_none, least as least_of, HoldsCenters};
+ghost use Rattle.std.specs.Int.{int_max, int_min};
+ghost use Rattle.primitive_setup.specs.Bounds.{bounds_of, cut as cut_to, end_at as end_of, first_from as first_of, greatest as greatest_of, is_empty as holds_none, least as least_of, HoldsCenters};
 ghost use Rattle.primitive_setup.specs.Window.{IsInWindow};
 
 use gl_records::{PixelBox, Size, VertexOut};
@@ -19,6 +20,32 @@ pub(crate) fn pixel_bounds(size: Size, a: &VertexOut, b: &VertexOut, c: &VertexO
         x1: end_at(greatest(a.x, b.x, c.x), size.w),
         y1: end_at(greatest(a.y, b.y, c.y), size.h),
     }
+}
+
+/// The pixels of the surface from a column and a row on, to a column and a row, these two excluded.
+pub(crate) fn cut(size: Size, left: i32, bottom: i32, right: i32, top: i32) -> PixelBox
+    ensures { result ≡ cut_to size left bottom right top }
+{
+    PixelBox {
+        x0: from_surface(left),
+        y0: from_surface(bottom),
+        x1: to_surface(right, size.w),
+        y1: to_surface(top, size.h),
+    }
+}
+
+/// The first column, or row, of the surface from this one on.
+fn from_surface(first: i32) -> i32
+    ensures { result ≡ int_max (pos 0) first }
+{
+    0.max(first)
+}
+
+/// The column, or row, at which a box ends on a surface of this side.
+fn to_surface(end: i32, side: u16) -> i32
+    ensures { result ≡ int_min (pos side) end }
+{
+    i32::from(side).min(end)
 }
 
 /// Whether the box holds no pixel.

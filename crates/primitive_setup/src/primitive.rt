@@ -10,14 +10,16 @@ ghost use Rattle.primitive_setup.specs.Window.{IsInWindow};
 
 use crate::bounds::{is_empty, pixel_bounds};
 use crate::facing::{doubled_area, faces_front, is_culled, takes_back_colors};
+use crate::line::line;
 use crate::offset::depth_offset;
+use crate::point::point;
 use crate::window::{corner, viewport_transform};
 use fx_arith::Fx;
 use gl_records::{ClipVertex, Prim, PrimKind, SetupRules, Size, VertexOut};
 
-/// The primitive that these clipped vertices make, in window coordinates. None where the standard draws
-/// nothing: a triangle without area, one whose visible side is culled, and one with no pixel of the
-/// surface in its box. Points and lines are not set up yet.
+/// The primitive that these clipped vertices make, in window coordinates. Of a line the first two count, of a point
+/// the first. None where the standard draws nothing: a triangle without area, one whose visible side is culled,
+/// a line whose ends are at the same place, and a primitive with no pixel of the surface in its bounds.
 pub fn setup(rules: &SetupRules, kind: PrimKind, v: &[ClipVertex; 3], size: Size) -> Option<Prim>
     requires rules_in_range { AreRulesInRange rules.now }
     requires in_front { AreInFront v.now }
@@ -27,7 +29,8 @@ pub fn setup(rules: &SetupRules, kind: PrimKind, v: &[ClipVertex; 3], size: Size
 {
     match kind {
         PrimKind::Triangle => triangle(rules, size, v),
-        PrimKind::Point | PrimKind::Line => None,
+        PrimKind::Line => line(rules, size, &v[0], &v[1]),
+        PrimKind::Point => point(rules, size, &v[0]),
     }
 }
 

@@ -1,4 +1,4 @@
-ghost use Rattle.std.specs.Prelude.{◌≡◌, ◌≤◌, ◌^◌, ◌≤ℤ◌, ◌*ℤ◌, ◌+ℤ◌, ◌-ℤ◌, pos, negsuc, unsigned_abs};
+ghost use Rattle.std.specs.Prelude.{◌≡◌, ◌≤◌, ◌^◌, ◌≤ℤ◌, ◌*ℤ◌, ◌+ℤ◌, ◌-ℤ◌, pos, negsuc, false, unsigned_abs};
 ghost use Rattle.fx_arith.specs.Number.{floor_quotient as quotient_of};
 ghost use Rattle.gl_records.specs.ClipVertex.{w_of};
 ghost use Rattle.gl_records.specs.SetupRules.{AreRulesInRange};
@@ -64,6 +64,16 @@ pub(crate) fn corner(
         tex: [raw_coordinates(&tex[0]), raw_coordinates(&tex[1])],
         fog: vertex.fog.0,
     }
+}
+
+/// A vertex as a corner in its front colour, where the window has it.
+pub(crate) fn front_corner(rules: &SetupRules, vertex: &ClipVertex) -> VertexOut
+    requires rules_in_range { AreRulesInRange rules.now }
+    requires in_front { pos 1 ≤ℤ w_of vertex.now }
+    ensures value { result ≡ corner_of rules.now false vertex.now }
+    ensures in_window { IsInWindow result }
+{
+    corner(rules, false, vertex, viewport_transform(rules, vertex))
 }
 
 /// A clip coordinate as a place along one axis of the viewport, whose lower end and side are in pixels.
