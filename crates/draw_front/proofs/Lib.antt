@@ -1,4 +1,4 @@
 pub mod Refusals
 pub mod Stated
 pub mod Stepped
-pub mod Triangles
+pub mod Vertices

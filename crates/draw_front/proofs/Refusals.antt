@@ -5,11 +5,10 @@ use Rattle.std.proofs.lemmas.List.{append-nil}
 use Rattle.gl_records.specs.declared.rec.Rec.{Rec}
 use Rattle.gl_records.specs.declared.rec.Rec.TheVariants.{End, GetError, Get, IsEnabled}
 use Rattle.gl_records.specs.Captured.{Captured}
-use Rattle.gl_query.specs.Answer.{answer_of}
 use Rattle.gl_tokens.specs.declared.gl_error.GlError.{GlError}
 use Rattle.output_format.specs.Log.{raise_line}
 use Rattle.trace_reader.specs.Trace.{is_end}
-use Rattle.draw_front.specs.Call.{answer_error, answer_line, answered, commanded, items_of, line_of, with_error}
+use Rattle.draw_front.specs.Call.{answer_error, answer_line, answered, commanded, items_of, line_of, queried, with_error}
 use Rattle.draw_front.specs.Collecting.{Collecting, after_call, asked_of, stepped, with_lines, with_refusal}
 use Rattle.draw_front.specs.Context.{Context}
 use Rattle.draw_front.specs.Immediate.{joined}
@@ -26,8 +25,8 @@ unanswered index (Err found) error is = refl
 
 pub refused-line : (context : Context) (index : ℕ) (rec : Rec) (error : GlError) → (commanded context rec).1 ≡ Some error → line_of context index rec ≡ None
 refused-line context index GetError error is = absurd cc
-refused-line context index (Get query) error is = unanswered index (answer_of context.state (Get query)) error is
-refused-line context index (IsEnabled capability) error is = unanswered index (answer_of context.state (IsEnabled capability)) error is
+refused-line context index (Get query) error is = unanswered index (queried context (Get query)) error is
+refused-line context index (IsEnabled capability) error is = unanswered index (queried context (IsEnabled capability)) error is
 refused-line context index _ error is = refl
 
 -- a call with an error, whose context is the one before it

@@ -2,7 +2,7 @@
 use Rattle.std.proofs.Common.{◌≡◌, ◌∙◌, ℕ, ℤ, Option, Some, None, OnSome, refl, sym, ap}
 use Rattle.gl_records.specs.declared.bytes.Bytes.{Bytes}
 use Rattle.gl_records.specs.declared.rec.Rec.{Rec}
-use Rattle.gl_records.specs.declared.rec.Rec.TheVariants.{GetError, Get, IsEnabled, ClientBytes, VertexPointer, EnableClientState, DisableClientState, DrawArrays, Clear}
+use Rattle.gl_records.specs.declared.rec.Rec.TheVariants.{GetError, Get, IsEnabled, ClientBytes, VertexPointer, NormalPointer, ColorPointer, TexCoordPointer, EnableClientState, DisableClientState, ClientActiveTexture, DrawArrays, DrawElements, Clear}
 use Rattle.gl_state.specs.declared.state.State.{State}
 use Rattle.gl_state.specs.State.{ran}
 use Rattle.gl_tokens.specs.declared.gl_error.GlError.{GlError}
@@ -16,9 +16,14 @@ pub record IsOfState (rec : Rec) : Type 0 where
   pub enabled : (x : ℕ) → rec ≡ IsEnabled x → ⊥
   pub bytes : (x : ℕ) (y : Bytes) → rec ≡ ClientBytes x y → ⊥
   pub pointer : (a : ℤ) (b : ℕ) (c : ℤ) (d e : ℕ) → rec ≡ VertexPointer a b c d e → ⊥
+  pub normals : (a : ℕ) (b : ℤ) (c d : ℕ) → rec ≡ NormalPointer a b c d → ⊥
+  pub colors : (a : ℤ) (b : ℕ) (c : ℤ) (d e : ℕ) → rec ≡ ColorPointer a b c d e → ⊥
+  pub texture_coords : (a : ℤ) (b : ℕ) (c : ℤ) (d e : ℕ) → rec ≡ TexCoordPointer a b c d e → ⊥
   pub enable : (x : ℕ) → rec ≡ EnableClientState x → ⊥
   pub disable : (x : ℕ) → rec ≡ DisableClientState x → ⊥
+  pub unit : (x : ℕ) → rec ≡ ClientActiveTexture x → ⊥
   pub draw : (x : ℕ) (y z : ℤ) → rec ≡ DrawArrays x y z → ⊥
+  pub elements : (a : ℕ) (b : ℤ) (c d e : ℕ) → rec ≡ DrawElements a b c d e → ⊥
   pub clear : (x : ℕ) → rec ≡ Clear x → ⊥
 
 pub stated : (context : Context) (rec : Rec) → IsOfState rec → commanded context rec ≡ on_state context (ran context.state rec)
@@ -27,9 +32,14 @@ stated context (Get x) of = absurd (of.get x refl)
 stated context (IsEnabled x) of = absurd (of.enabled x refl)
 stated context (ClientBytes x y) of = absurd (of.bytes x y refl)
 stated context (VertexPointer a b c d e) of = absurd (of.pointer a b c d e refl)
+stated context (NormalPointer a b c d) of = absurd (of.normals a b c d refl)
+stated context (ColorPointer a b c d e) of = absurd (of.colors a b c d e refl)
+stated context (TexCoordPointer a b c d e) of = absurd (of.texture_coords a b c d e refl)
 stated context (EnableClientState x) of = absurd (of.enable x refl)
 stated context (DisableClientState x) of = absurd (of.disable x refl)
+stated context (ClientActiveTexture x) of = absurd (of.unit x refl)
 stated context (DrawArrays x y z) of = absurd (of.draw x y z refl)
+stated context (DrawElements a b c d e) of = absurd (of.elements a b c d e refl)
 stated context (Clear x) of = absurd (of.clear x refl)
 stated context _ of = refl
 

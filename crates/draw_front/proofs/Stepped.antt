@@ -1,31 +1,41 @@
 -- A command that makes no error: what the front keeps of it is what it asks for.
-use Rattle.std.proofs.Common.{◌≡◌, ◌∙◌, ◌+◌, ◌-◌, ◌++◌, ℕ, Bool, true, false, List, [], length, map, Option, Some, None, refl, ap, arith}
-use Rattle.std.specs.Prelude.{option_to_list, if◌then◌else◌}
-use Rattle.std.specs.List.{range_with_len}
+use Rattle.std.proofs.Common.{◌≡◌, ◌∙◌, ◌+◌, ◌-◌, ◌++◌, ℕ, Bool, true, false, List, [], length, map, Option, Some, None, refl, sym, ap}
+use Rattle.std.specs.Prelude.{option_to_list, if◌then◌else◌, unsigned_abs}
+use Rattle.draw_primitives.specs.Draw.{all_of, primitives_of}
 use Rattle.gl_records.specs.declared.clear.ClearItem.{ClearItem}
 use Rattle.gl_records.specs.declared.rec.Rec.{Rec}
-use Rattle.gl_records.specs.declared.rec.Rec.TheVariants.{DrawArrays, Clear}
+use Rattle.gl_records.specs.declared.rec.Rec.TheVariants.{DrawArrays, DrawElements, Clear}
 use Rattle.gl_records.specs.declared.size.Size.{Size}
 use Rattle.gl_records.specs.Captured.{Captured}
 use Rattle.gl_records.specs.Captured as captured
 use Rattle.gl_state.specs.State.{clear_item}
+use Rattle.gl_tokens.specs.Mode as mode_codes
+use Rattle.gl_tokens.specs.declared.array_kind.ArrayKind.TheVariants.{Vertex}
 use Rattle.gl_tokens.specs.declared.gl_error.GlError.{GlError}
+use Rattle.gl_tokens.specs.declared.mode.Mode.{Mode}
 use Rattle.trace_reader.specs.Reading.{index_after}
+use Rattle.vertex_fetch.specs.Arrays.{is_enabled}
+use Rattle.vertex_fetch.specs.Draws.{draw_error}
 use Rattle.draw_front.specs.declared.pending.Pending.TheVariants as pending
 use Rattle.draw_front.specs.Call.{answered, commanded, items_of, line_of}
 use Rattle.draw_front.specs.Collecting.{Collecting, after_call, stepped}
 use Rattle.draw_front.specs.Context.{Context}
-use Rattle.draw_front.specs.Draws.{items_of_triangles}
+use Rattle.draw_front.specs.Draws.{draw_state, drawn, source}
 use Rattle.draw_front.specs.Immediate.{joined}
-use Rattle.draw_front.specs.Pending.{items_left, pending_clear, pending_of}
+use Rattle.draw_front.specs.Pending.{items_left, pending_clear, pending_of, pending_vertices}
 
-draw-left : (size : Size) (context : Context) (drawn : Bool) (first end : ℕ)
-    → items_left size context (if drawn then pending.Triangles first 0 end else pending.Nothing)
-    ≡ (if drawn then items_of_triangles size context first (range_with_len 0 end) else [])
-draw-left size context true first end =
-    let none : end - 0 ≡ end = omega arith in
-    ap (λ (n : ℕ). items_of_triangles size context first (range_with_len 0 n)) none
-draw-left size context false first end = refl
+-- a draw without error that is kept, whether there is a vertex array or not
+drawn-left : (size : Size) (context : Context) (rec : Rec) (mode : Mode) (n : ℕ) (on : Bool)
+    → items_left size context (if on then pending.Draw (all_of (draw_state context.state) rec mode n) else pending.Nothing)
+    ≡ (if on then map captured.Draw (primitives_of (draw_state context.state) (source context rec) size mode n) else [])
+drawn-left size context rec mode n true = refl
+drawn-left size context rec mode n false = refl
+
+draw-left : (size : Size) (context : Context) (rec : Rec) (error : Option GlError) (mode : Option Mode) (n : ℕ) → error ≡ None
+    → items_left size context (pending_vertices context rec error mode n) ≡ drawn size context rec mode n
+draw-left size context rec None (Some mode) n is = drawn-left size context rec mode n (is_enabled context.arrays Vertex)
+draw-left size context rec None None n is = refl
+draw-left size context rec (Some error) mode n is = absurd cc
 
 clear-left : (size : Size) (context : Context) (found : Option ClearItem) → items_left size context (pending_clear found) ≡ map captured.Clear (option_to_list found)
 clear-left size context (Some clear) = refl
@@ -34,8 +44,13 @@ clear-left size context None = refl
 -- what is pending of a command, seen from the context after it, are its items
 pub left-of : (size : Size) (context later : Context) (rec : Rec) → (later, None) ≡ commanded context rec → items_left size later (pending_of size context rec) ≡ items_of size context rec
 left-of size context later (DrawArrays mode first count) is =
-    let same : later ≡ context = ap (λ (answer : Context × Option GlError). answer.0) is in
-    ap (λ (c : Context). items_left size c (pending_of size context (DrawArrays mode first count))) same ∙ draw-left size context _ _ _
+    let rec = DrawArrays mode first count in
+    ap (λ (c : Context). items_left size c (pending_of size context rec)) (ap (λ (answer : Context × Option GlError). answer.0) is)
+    ∙ draw-left size context rec (draw_error rec) (mode_codes.from_code_of mode) (unsigned_abs count) (sym (ap (λ (answer : Context × Option GlError). answer.1) is))
+left-of size context later (DrawElements mode count kind region offset) is =
+    let rec = DrawElements mode count kind region offset in
+    ap (λ (c : Context). items_left size c (pending_of size context rec)) (ap (λ (answer : Context × Option GlError). answer.0) is)
+    ∙ draw-left size context rec (draw_error rec) (mode_codes.from_code_of mode) (unsigned_abs count) (sym (ap (λ (answer : Context × Option GlError). answer.1) is))
 left-of size context later (Clear mask) is = clear-left size later (clear_item context.state mask size)
 left-of size context later _ is = refl
 

@@ -1,25 +1,29 @@
 -- One command: the context after it, its error, what it draws, the chunk and the lines that it makes.
 use Rattle.std.specs.Prelude.{ℕ, ℤ, List, [], ◌∷◌, Option, Some, None, Result, Ok, Err, map, option_to_list}
 use Rattle.gl_records.specs.declared.rec.Rec.{Rec}
-use Rattle.gl_records.specs.declared.rec.Rec.TheVariants.{Swap, GetError, Get, IsEnabled, ClientBytes, VertexPointer, EnableClientState, DisableClientState, DrawArrays, Clear}
+use Rattle.gl_records.specs.declared.rec.Rec.TheVariants.{Swap, GetError, Get, IsEnabled, ClientBytes, VertexPointer, NormalPointer, ColorPointer, TexCoordPointer, EnableClientState, DisableClientState, ClientActiveTexture, DrawArrays, DrawElements, Clear}
 use Rattle.gl_records.specs.declared.size.Size.{Size}
 use Rattle.gl_records.specs.Captured.{Captured}
 use Rattle.gl_records.specs.Captured as captured
 use Rattle.gl_records.specs.Surface.{Surface}
 use Rattle.gl_query.specs.Answer.{answer_of}
+use Rattle.gl_query.specs.Values.{one, truth}
 use Rattle.gl_state.specs.declared.state.State.{State}
 use Rattle.gl_state.specs.Clears.{clear_error}
 use Rattle.gl_state.specs.ErrorFlag.{raised, flag_code}
 use Rattle.gl_state.specs.State.{ran, clear_item}
+use Rattle.gl_tokens.specs.ArrayKind as array_kind
 use Rattle.gl_tokens.specs.Commands.{within}
+use Rattle.gl_tokens.specs.declared.array_kind.ArrayKind.{ArrayKind}
 use Rattle.gl_tokens.specs.declared.gl_error.GlError.{GlError}
 use Rattle.output_format.specs.Frames.{frame}
 use Rattle.output_format.specs.Log.{raise_line, error_line, get_line}
 use Rattle.vertex_fetch.specs.declared.arrays.Arrays.{Arrays}
-use Rattle.vertex_fetch.specs.Arrays.{with_command}
+use Rattle.vertex_fetch.specs.Arrays.{is_enabled, with_command}
+use Rattle.vertex_fetch.specs.Draws.{draw_error}
 use Rattle.vertex_fetch.specs.Regions.{with_region}
 use Rattle.draw_front.specs.Context.{Context}
-use Rattle.draw_front.specs.Draws.{draw_error, draw_items}
+use Rattle.draw_front.specs.Draws.{draw_items}
 
 pub record Called : Type 0 where
   pub context : Context
@@ -41,6 +45,23 @@ on_arrays context = within (λ arrays. record context { arrays = arrays })
 abbrev pub on_regions : Context → List (List ℕ) × Option GlError → Context × Option GlError
 on_regions context = within (λ regions. record context { regions = regions })
 
+-- the client's active unit: the arrays go by it, and the state has it for queries
+abbrev pub client_unit : Context → ℕ → Arrays × Option GlError → Context × Option GlError
+client_unit context texture (arrays, None) =
+    (record context { arrays = arrays; state = (ran context.state (ClientActiveTexture texture)).0 }, None)
+client_unit context texture (arrays, Some error) = (context, Some error)
+
+-- whether an array is on
+abbrev pub array_answer : Context → Option ArrayKind → Result (List ℤ) GlError → Result (List ℤ) GlError
+array_answer context (Some kind) other = Ok (one (truth (is_enabled context.arrays kind)))
+array_answer context None other = other
+
+-- what a query answers: IsEnabled of an array asks the arrays, and all else the state
+abbrev pub queried : Context → Rec → Result (List ℤ) GlError
+queried context (IsEnabled capability) =
+    array_answer context (array_kind.from_code_of capability) (answer_of context.state (IsEnabled capability))
+queried context rec = answer_of context.state rec
+
 -- a query that can't be answered makes an error; one that can has a line
 abbrev pub answer_error : Result (List ℤ) GlError → Option GlError
 answer_error (Ok values) = None
@@ -53,28 +74,39 @@ answer_line index (Err error) = None
 -- the context after a command, and the command's error; the flag doesn't have that error yet
 abbrev pub commanded : Context → Rec → Context × Option GlError
 commanded context GetError = (record context { flag = None }, None)
-commanded context (Get query) = (context, answer_error (answer_of context.state (Get query)))
-commanded context (IsEnabled capability) = (context, answer_error (answer_of context.state (IsEnabled capability)))
+commanded context (Get query) = (context, answer_error (queried context (Get query)))
+commanded context (IsEnabled capability) = (context, answer_error (queried context (IsEnabled capability)))
 commanded context (ClientBytes region piece) = on_regions context (with_region context.regions region piece)
 commanded context (VertexPointer size kind stride region offset) =
     on_arrays context (with_command context.arrays (VertexPointer size kind stride region offset))
+commanded context (NormalPointer kind stride region offset) =
+    on_arrays context (with_command context.arrays (NormalPointer kind stride region offset))
+commanded context (ColorPointer size kind stride region offset) =
+    on_arrays context (with_command context.arrays (ColorPointer size kind stride region offset))
+commanded context (TexCoordPointer size kind stride region offset) =
+    on_arrays context (with_command context.arrays (TexCoordPointer size kind stride region offset))
 commanded context (EnableClientState array) = on_arrays context (with_command context.arrays (EnableClientState array))
 commanded context (DisableClientState array) = on_arrays context (with_command context.arrays (DisableClientState array))
-commanded context (DrawArrays mode first count) = (context, draw_error mode first count)
+commanded context (ClientActiveTexture texture) =
+    client_unit context texture (with_command context.arrays (ClientActiveTexture texture))
+commanded context (DrawArrays mode first count) = (context, draw_error (DrawArrays mode first count))
+commanded context (DrawElements mode count kind region offset) = (context, draw_error (DrawElements mode count kind region offset))
 commanded context (Clear mask) = (context, clear_error mask)
 commanded context rec = on_state context (ran context.state rec)
 
 -- the items of a command that makes no error: only a draw and a Clear have some
 abbrev pub items_of : Size → Context → Rec → List Captured
-items_of size context (DrawArrays mode first count) = draw_items size context mode first count
+items_of size context (DrawArrays mode first count) = draw_items size context (DrawArrays mode first count) mode count
+items_of size context (DrawElements mode count kind region offset) =
+    draw_items size context (DrawElements mode count kind region offset) mode count
 items_of size context (Clear mask) = map captured.Clear (option_to_list (clear_item context.state mask size))
 items_of size context _ = []
 
 -- the line of a command that makes no error: GetError answers the flag, and a query its numbers
 abbrev pub line_of : Context → ℕ → Rec → Option (List ℕ)
 line_of context index GetError = Some (error_line index (flag_code context.flag))
-line_of context index (Get query) = answer_line index (answer_of context.state (Get query))
-line_of context index (IsEnabled capability) = answer_line index (answer_of context.state (IsEnabled capability))
+line_of context index (Get query) = answer_line index (queried context (Get query))
+line_of context index (IsEnabled capability) = answer_line index (queried context (IsEnabled capability))
 line_of context index _ = None
 
 -- the context with an error in its flag

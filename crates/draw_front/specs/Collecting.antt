@@ -1,7 +1,7 @@
 -- The front, as its callers see it: the collecting side between two of its calls.
 use Rattle.std.specs.Prelude.{ℕ, ◌+◌, Bool, false, List, [], ◌∷◌, ◌++◌, length, Option, Some, None}
 use Rattle.gl_records.specs.declared.rec.Rec.{Rec}
-use Rattle.gl_records.specs.declared.rec.Rec.TheVariants.{Swap, DrawArrays, Clear, End}
+use Rattle.gl_records.specs.declared.rec.Rec.TheVariants.{Swap, DrawArrays, DrawElements, Clear, End}
 use Rattle.gl_records.specs.declared.size.Size.{Size}
 use Rattle.gl_records.specs.Captured.{Captured}
 use Rattle.gl_tokens.specs.declared.gl_error.GlError.{GlError}
@@ -70,6 +70,7 @@ stepped now rec = counted (after_call now (asked_of now rec)) rec
 abbrev pub step_of : Rec → Step
 step_of Swap = Present
 step_of (DrawArrays mode first count) = Items
+step_of (DrawElements mode count kind region offset) = Items
 step_of (Clear mask) = Items
 step_of End = Ended
 step_of _ = Quiet

@@ -5,4 +5,3 @@ pub mod Draws
 pub mod Immediate
 pub mod Pending
 pub mod Playing
-pub mod Vertex

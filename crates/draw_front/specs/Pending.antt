@@ -1,6 +1,6 @@
 -- The items of a record that are still to come, as the front keeps them.
-use Rattle.std.specs.Prelude.{◌+◌, ◌*◌, ◌-◌, ◌/◌, ◌^◌, ◌≤◌, List, [], ◌∷◌, Option, Some, None, if◌then◌else◌, unsigned_abs}
-use Rattle.std.specs.List.{range_with_len}
+use Rattle.std.specs.Prelude.{ℕ, ℤ, List, [], ◌∷◌, map, Option, Some, None, if◌then◌else◌, unsigned_abs}
+use Rattle.draw_primitives.specs.Draw.{all_of, primitives_left}
 use Rattle.gl_records.specs.declared.clear.ClearItem.{ClearItem}
 use Rattle.gl_records.specs.declared.rec.Rec.{Rec}
 use Rattle.gl_records.specs.declared.rec.Rec.TheVariants as rec
@@ -9,31 +9,47 @@ use Rattle.gl_records.specs.Captured.{Captured}
 use Rattle.gl_records.specs.Captured as captured
 use Rattle.gl_records.specs.Valid.{IsValidClear}
 use Rattle.gl_state.specs.State.{clear_item}
+use Rattle.gl_tokens.specs.Mode as mode_codes
+use Rattle.gl_tokens.specs.declared.array_kind.ArrayKind.TheVariants.{Vertex}
+use Rattle.gl_tokens.specs.declared.gl_error.GlError.{GlError}
+use Rattle.gl_tokens.specs.declared.mode.Mode.{Mode}
+use Rattle.vertex_fetch.specs.Arrays.{is_enabled}
+use Rattle.vertex_fetch.specs.Draws.{draw_error}
 use Rattle.draw_front.specs.declared.pending.Pending.{Pending}
-use Rattle.draw_front.specs.declared.pending.Pending.TheVariants.{Nothing, Clear, Triangles}
+use Rattle.draw_front.specs.declared.pending.Pending.TheVariants.{Nothing, Clear, Draw}
 use Rattle.draw_front.specs.Context.{Context}
-use Rattle.draw_front.specs.Draws.{is_drawn, items_of_triangles}
+use Rattle.draw_front.specs.Draws.{draw_state}
 
 -- the items themselves
 abbrev pub items_left : Size → Context → Pending → List Captured
 items_left size context Nothing = []
 items_left size context (Clear clear) = captured.Clear clear ∷ []
-items_left size context (Triangles first next end) = items_of_triangles size context first (range_with_len next (end - next))
+items_left size context (Draw rest) = map captured.Draw (primitives_left context.arrays context.regions size rest)
 
--- what holds of them: a Clear can be drawn, and the indices of a draw's vertices have 32 bits
+-- what holds of them: a Clear can be drawn
 abbrev pub IsPending : Size → Pending → Type 0
 IsPending size Nothing = Unit {0}
 IsPending size (Clear clear) = IsValidClear clear size
-IsPending size (Triangles first next end) = (next ≤ end) × (first + 3 * end ≤ 2 ^ 32)
+IsPending size (Draw rest) = Unit {0}
 
 -- how a Clear is kept
 abbrev pub pending_clear : Option ClearItem → Pending
 pending_clear (Some clear) = Clear clear
 pending_clear None = Nothing
 
+-- how a draw of n vertices is kept: nothing where it has an error, or where there is no vertex array
+abbrev pub pending_vertices : Context → Rec → Option GlError → Option Mode → ℕ → Pending
+pending_vertices context rec None (Some mode) n =
+    if is_enabled context.arrays Vertex then Draw (all_of (draw_state context.state) rec mode n) else Nothing
+pending_vertices context rec _ _ n = Nothing
+
+abbrev pub pending_draw : Context → Rec → ℕ → ℤ → Pending
+pending_draw context rec mode count = pending_vertices context rec (draw_error rec) (mode_codes.from_code_of mode) (unsigned_abs count)
+
 -- how they are kept before the first one
 abbrev pub pending_of : Size → Context → Rec → Pending
-pending_of size context (rec.DrawArrays mode first count) =
-    if is_drawn context mode then Triangles (unsigned_abs first) 0 (unsigned_abs count / 3) else Nothing
+pending_of size context (rec.DrawArrays mode first count) = pending_draw context (rec.DrawArrays mode first count) mode count
+pending_of size context (rec.DrawElements mode count kind region offset) =
+    pending_draw context (rec.DrawElements mode count kind region offset) mode count
 pending_of size context (rec.Clear mask) = pending_clear (clear_item context.state mask size)
 pending_of size context _ = Nothing

@@ -1,17 +1,17 @@
 ghost use Rattle.std.specs.Prelude.{◌≡◌, OnSome};
 ghost use Rattle.gl_records.specs.Size.{IsSize};
-ghost use Rattle.gl_query.specs.Answer.{answer_of};
-ghost use Rattle.draw_front.specs.Call.{answer_error, commanded};
+ghost use Rattle.gl_query.specs.Values.{answered, one as one_of, truth as truth_of};
+ghost use Rattle.draw_front.specs.Call.{answer_error, commanded, queried};
 ghost use Rattle.draw_front.specs.Context.{opening_context};
+ghost use Rattle.gl_records.specs.declared.rec.Rec.TheVariants.{ClientActiveTexture};
 
-use crate::draws::draw_error;
-use gl_query::answer;
+use gl_query::{Values, answer, truth};
 use gl_records::{Rec, Size};
 use gl_state::{ErrorFlag, State, clear_error};
-use gl_tokens::GlError;
+use gl_tokens::{ArrayKind, GlError};
 use std::alloc::Global;
 use std::marker::Model;
-use vertex_fetch::{Arrays, Regions};
+use vertex_fetch::{Arrays, Regions, draw_error};
 
 /// What the commands leave.
 #[derive(Drop)]
@@ -62,24 +62,53 @@ impl Context {
                 self.flag.take();
                 None
             }
-            Rec::Get { .. } | Rec::IsEnabled { .. } => query_error(&self.state, &rec),
+            Rec::Get { .. } | Rec::IsEnabled { .. } => self.query_error(&rec),
             Rec::ClientBytes { region, piece } => self.regions.set(region, piece),
             Rec::VertexPointer { .. }
+            | Rec::NormalPointer { .. }
+            | Rec::ColorPointer { .. }
+            | Rec::TexCoordPointer { .. }
             | Rec::EnableClientState { .. }
             | Rec::DisableClientState { .. } => self.arrays.set(&rec),
-            Rec::DrawArrays { mode, first, count } => draw_error(mode, first, count),
+            Rec::ClientActiveTexture { texture } => self.client_unit(texture),
+            Rec::DrawArrays { .. } | Rec::DrawElements { .. } => draw_error(&rec),
             Rec::Clear { mask } => clear_error(mask),
             rec => self.state.apply(&rec),
         }
     }
-}
 
-/// The error of Get or IsEnabled, or none.
-fn query_error(state: &State, rec: &Rec) -> Option<GlError>
-    ensures { result ≡ answer_error (answer_of state.now rec.now) }
-{
-    match answer(state, rec) {
-        Ok(_) => None,
-        Err(error) => Some(error),
+    /// ClientActiveTexture: the arrays go by it, and the state has it for queries.
+    fn client_unit(&mut self, texture: u32) -> Option<GlError>
+        ensures run { (self.new, result) ≡ commanded self.old (ClientActiveTexture texture) }
+        ensures unchanged { OnSome result (self.new ≡ self.old) }
+    {
+        let rec = Rec::ClientActiveTexture { texture };
+        if let Some(error) = self.arrays.set(&rec) {
+            return Some(error);
+        }
+        self.state.apply(&rec);
+        None
+    }
+
+    /// What a query answers. InvalidEnum where Get asks for a value that isn't answered, or IsEnabled for what is neither a
+    /// capability nor an array.
+    pub fn query(&self, rec: &Rec) -> Result<Values, GlError>
+        ensures { answered result ≡ queried self.now rec.now }
+    {
+        if let Rec::IsEnabled { capability } = rec {
+            if let Some(kind) = ArrayKind::from_code(*capability) {
+                return Ok(truth(self.arrays.enabled(kind)));
+            }
+        }
+        answer(&self.state, rec)
+    }
+
+    fn query_error(&self, rec: &Rec) -> Option<GlError>
+        ensures { result ≡ answer_error (queried self.now rec.now) }
+    {
+        match self.query(rec) {
+            Ok(_) => None,
+            Err(error) => Some(error),
+        }
     }
 }

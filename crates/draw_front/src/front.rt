@@ -10,7 +10,6 @@ ghost use Rattle.draw_front.specs.Immediate.{joined};
 use crate::context::Context;
 use crate::pending::Pending;
 use crate::step::Step;
-use gl_query::answer;
 use gl_records::{Bytes, Item, Rec, Size};
 use gl_tokens::GlError;
 use output_format::{append_error, append_get, append_raise};
@@ -211,7 +210,7 @@ fn append_line(
             append_error(alloc, lines, index, flag.take())?;
             Ok(1)
         }
-        Rec::Get { .. } | Rec::IsEnabled { .. } => match answer(&context.state, rec) {
+        Rec::Get { .. } | Rec::IsEnabled { .. } => match context.query(rec) {
             Ok(values) => {
                 append_get(alloc, lines, index, values.as_slice())?;
                 Ok(1)

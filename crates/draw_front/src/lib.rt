@@ -13,14 +13,12 @@
 #![tactic(auto)]
 
 mod context;
-mod draws;
+mod draw_state;
 mod front;
 mod pending;
 mod step;
 #[cfg(test)]
 mod tests;
-mod vertex;
 
-pub use draws::triangle;
 pub use front::Front;
 pub use step::Step;

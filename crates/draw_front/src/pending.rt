@@ -3,20 +3,23 @@ ghost use Rattle.std.specs.Prelude.{◌≡◌, ◌++◌, [], map, option_to_list
 ghost use Rattle.gl_records.specs.Captured.{captured};
 ghost use Rattle.gl_records.specs.Size.{IsSize};
 ghost use Rattle.gl_records.specs.Valid.{IsDrawable};
+ghost use Rattle.vertex_fetch.specs.Draws.{vertex_count};
 ghost use Rattle.draw_front.specs.Call.{commanded};
-ghost use Rattle.draw_front.specs.Pending.{IsPending, items_left, pending_of};
+ghost use Rattle.draw_front.specs.Pending.{IsPending, items_left, pending_draw as pending_draw_of, pending_of};
 
 use crate::context::Context;
-use crate::draws::{is_drawn, next_triangle};
+use crate::draw_state::draw_state;
+use draw_primitives::Draw;
 use gl_records::{ClearItem, Item, Rec, Size};
+use gl_tokens::{ArrayKind, Mode};
+use vertex_fetch::draw_error;
 
 /// What a record is still to draw.
-#[derive(Clone, Copy, Debug, PartialEq, Eq)]
+#[derive(Drop)]
 pub enum Pending {
     Nothing,
     Clear(ClearItem),
-    /// The triangles of a draw numbered `next` to `end - 1`, three vertices each from vertex `first` on.
-    Triangles { first: u32, next: u32, end: u32 },
+    Draw(Draw),
 }
 
 impl Pending {
@@ -28,15 +31,24 @@ impl Pending {
     {
         match *rec {
             Rec::DrawArrays { mode, first, count } => {
-                if is_drawn(context, mode) {
-                    Pending::Triangles {
-                        first: first.unsigned_abs(),
-                        next: 0,
-                        end: count.unsigned_abs() / 3,
-                    }
-                } else {
-                    Pending::Nothing
-                }
+                let rec = Rec::DrawArrays { mode, first, count };
+                pending_draw(context, rec, mode, count)
+            }
+            Rec::DrawElements {
+                mode,
+                count,
+                kind,
+                region,
+                offset,
+            } => {
+                let rec = Rec::DrawElements {
+                    mode,
+                    count,
+                    kind,
+                    region,
+                    offset,
+                };
+                pending_draw(context, rec, mode, count)
             }
             Rec::Clear { mask } => match context.state.clear_item(mask, size) {
                 Some(clear) => Pending::Clear(clear),
@@ -56,20 +68,38 @@ impl Pending {
         ensures drawable { IfSome result (λ item. IsDrawable (captured item) size) }
         ensures pending { IsPending size self.new }
     {
-        match *self {
+        match self {
             Pending::Nothing => None,
             Pending::Clear(clear) => {
+                let clear = *clear;
                 *self = Pending::Nothing;
                 Some(Item::Clear(clear))
             }
-            Pending::Triangles { first, next, end } => {
-                let (prim, next) = next_triangle(context, size, first, next, end);
-                *self = Pending::Triangles { first, next, end };
-                match prim {
-                    Some(prim) => Some(Item::Draw(prim)),
-                    None => None,
-                }
+            Pending::Draw(draw) => match draw.next(&context.arrays, &context.regions, size) {
+                Some(prim) => Some(Item::Draw(prim)),
+                None => None,
+            },
+        }
+    }
+}
+
+/// What a draw of so many vertices is to draw: nothing where it has an error, or where the vertex array is off.
+fn pending_draw(context: &Context, rec: Rec, mode: u32, count: i32) -> Pending
+    requires { vertex_count rec ≡ count }
+    ensures { result ≡ pending_draw_of context.now rec mode count }
+{
+    if draw_error(&rec).is_some() {
+        return Pending::Nothing;
+    }
+    match Mode::from_code(mode) {
+        Some(mode) => {
+            if context.arrays.enabled(ArrayKind::Vertex) {
+                let amount = count.unsigned_abs();
+                Pending::Draw(Draw::new(draw_state(&context.state), rec, mode, amount))
+            } else {
+                Pending::Nothing
             }
         }
+        None => Pending::Nothing,
     }
 }

@@ -24,6 +24,7 @@ impl Step {
         match *rec {
             Rec::Swap => Step::Present,
             Rec::DrawArrays { .. } => Step::Items,
+            Rec::DrawElements { .. } => Step::Items,
             Rec::Clear { .. } => Step::Items,
             Rec::End => Step::Ended,
             _ => Step::Quiet,

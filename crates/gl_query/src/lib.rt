@@ -13,4 +13,4 @@ mod queries;
 mod values;
 
 pub use queries::answer;
-pub use values::Values;
+pub use values::{Values, truth};

@@ -89,8 +89,8 @@ fn raws(list: &[Fx]) -> Values
     values
 }
 
-/// A truth value.
-pub(crate) fn truth(flag: bool) -> Values
+/// A truth value, as the one number that IsEnabled answers.
+pub fn truth(flag: bool) -> Values
     ensures { result.items ≡ one_of (truth_of flag) }
 {
     one(i32::from(flag))

@@ -15,3 +15,6 @@ mod vertex;
 
 pub use normal::eye_normal;
 pub use vertex::run;
+
+#[cfg(test)]
+mod tests;

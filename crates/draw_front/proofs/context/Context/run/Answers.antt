@@ -14,9 +14,14 @@ returns-in_default c =
       enabled = c.in_default.not-IsEnabled;
       bytes = c.in_default.not-ClientBytes;
       pointer = c.in_default.not-VertexPointer;
+      normals = c.in_default.not-NormalPointer;
+      colors = c.in_default.not-ColorPointer;
+      texture_coords = c.in_default.not-TexCoordPointer;
       enable = c.in_default.not-EnableClientState;
       disable = c.in_default.not-DisableClientState;
+      unit = c.in_default.not-ClientActiveTexture;
       draw = c.in_default.not-DrawArrays;
+      elements = c.in_default.not-DrawElements;
       clear = c.in_default.not-Clear;
     } in
     let inside = c.self.inside in

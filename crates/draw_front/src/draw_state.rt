@@ -1,0 +1,19 @@
+ghost use Rattle.std.specs.Prelude.{◌≡◌};
+ghost use Rattle.gl_records.specs.SetupRules.{AreRulesInRange};
+ghost use Rattle.draw_front.specs.Draws.{draw_state as draw_state_of};
+
+use draw_primitives::DrawState;
+use gl_state::State;
+
+/// What the state fixes for a draw at this moment.
+pub fn draw_state(state: &State) -> DrawState
+    ensures value { result ≡ draw_state_of state.now }
+    ensures ranges { AreRulesInRange result.rules }
+{
+    DrawState {
+        vertex: state.vertex_state(),
+        current: state.current(),
+        flat: state.flat(),
+        rules: state.setup_rules(),
+    }
+}
