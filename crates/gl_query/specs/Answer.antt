@@ -24,18 +24,17 @@ use Rattle.gl_tokens.specs.declared.gl_error.GlError.TheVariants.{InvalidEnum}
 use Rattle.gl_tokens.specs.declared.matrix_mode.MatrixMode.TheVariants.{Modelview, Projection, Texture}
 use Rattle.gl_tokens.specs.declared.query.Query.{Query}
 use Rattle.gl_tokens.specs.declared.query.Query.TheVariants.{CurrentColor, CurrentNormal, CurrentTextureCoords, PointSize, LineWidth, CullFaceMode, FrontFace, ShadeModel, DepthRange, DepthWriteMask, DepthClearValue, DepthFunc, StencilClearValue, StencilFunc, StencilValueMask, StencilFail, StencilPassDepthFail, StencilPassDepthPass, StencilRef, StencilWriteMask, MatrixMode, Viewport, ModelviewStackDepth, ProjectionStackDepth, TextureStackDepth, ModelviewMatrix, ProjectionMatrix, TextureMatrix, AlphaTestFunc, AlphaTestRef, BlendDst, BlendSrc, LogicOpMode, ScissorBox, ColorClearValue, ColorWriteMask, UnpackAlignment, PackAlignment, MaxLights, MaxClipPlanes, MaxTextureSize, MaxModelviewStackDepth, MaxProjectionStackDepth, MaxTextureStackDepth, MaxViewportDims, SubpixelBits, RedBits, GreenBits, BlueBits, AlphaBits, DepthBits, StencilBits, ActiveTexture, ClientActiveTexture, MaxTextureUnits}
-use Rattle.gl_tokens.specs.declared.texture_unit.TextureUnit.TheVariants.{Texture0}
 use Rattle.matrix_stacks.specs.Stack.{top}
 use Rattle.matrix_stacks.specs.Stacks.{stack_of}
 use Rattle.gl_query.specs.Values.{raw, raws, truth, one, code}
 
--- current values; texture coordinates are those of the active unit. No command sets the client's active unit yet.
+-- current values; texture coordinates are those of the active unit.
 abbrev pub current : State → Query → Option (List ℤ)
 current s CurrentColor = Some (raws s.current.color)
 current s CurrentNormal = Some (raws s.current.normal)
 current s CurrentTextureCoords = Some (raws (coordinates s.current s.current.unit))
 current s ActiveTexture = Some (code (texture_unit.code_of s.current.unit))
-current s ClientActiveTexture = Some (code (texture_unit.code_of Texture0))
+current s ClientActiveTexture = Some (code (texture_unit.code_of s.current.client_unit))
 current s query = None
 
 -- matrices and how many each stack has; textures go by the active unit

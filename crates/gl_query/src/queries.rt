@@ -7,7 +7,7 @@ use crate::values::{
 };
 use gl_records::Rec;
 use gl_state::State;
-use gl_tokens::{Cap, GlError, MatrixMode, Query, TextureUnit};
+use gl_tokens::{Cap, GlError, MatrixMode, Query};
 
 /// What the record asks of the state. The record is Get or IsEnabled. InvalidEnum exactly where the first asks for a
 /// value that isn't answered, or the second for what is no capability; texturing is that of the active unit.
@@ -67,7 +67,7 @@ fn current(state: &State, query: Query) -> Option<Values>
         Query::CurrentNormal => Some(raws3(current.normal)),
         Query::CurrentTextureCoords => Some(raws4(*current.coordinates(current.unit))),
         Query::ActiveTexture => Some(code(current.unit.code())),
-        Query::ClientActiveTexture => Some(code(TextureUnit::Texture0.code())),
+        Query::ClientActiveTexture => Some(code(current.client_unit.code())),
         _ => None,
     }
 }

@@ -1,6 +1,7 @@
 -- One texel of a piece, by the byte at which it begins (OpenGL ES 1.1.12, 3.6.2 and 3.7.1).
 use Rattle.std.specs.Prelude.{ℕ, ◌+◌, Bool, true, false, List, [], ◌∷◌, slice_index}
-use Rattle.std.specs.Int.{w16, w32, from_le_bytes}
+use Rattle.std.specs.Int.{w32, from_le_bytes}
+use Rattle.gl_records.specs.BytesAt.{short_at}
 use Rattle.gl_tokens.specs.declared.base_format.BaseFormat.{BaseFormat}
 use Rattle.gl_tokens.specs.declared.base_format.BaseFormat.TheVariants.{Alpha, Rgb, Rgba, Luminance, LuminanceAlpha}
 use Rattle.gl_tokens.specs.declared.texel_type.TexelType.{TexelType}
@@ -34,17 +35,6 @@ texel_bytes _ UnsignedShort565 = 2
 abbrev pub rgba : ℕ → ℕ → ℕ → ℕ → ℕ
 rgba r g b a = from_le_bytes w32 (r ∷ g ∷ b ∷ a ∷ [])
 
--- the bytes of the piece from a place on; a byte outside of it is 0
-abbrev pub two_at : List ℕ → ℕ → List ℕ
-two_at piece start = slice_index piece start ∷ slice_index piece (start + 1) ∷ []
-
-abbrev pub three_at : List ℕ → ℕ → List ℕ
-three_at piece start = slice_index piece start ∷ slice_index piece (start + 1) ∷ slice_index piece (start + 2) ∷ []
-
-abbrev pub four_at : List ℕ → ℕ → List ℕ
-four_at piece start =
-    slice_index piece start ∷ slice_index piece (start + 1) ∷ slice_index piece (start + 2) ∷ slice_index piece (start + 3) ∷ []
-
 -- the texel of a byte for each component
 abbrev pub byte_texel : BaseFormat → List ℕ → ℕ → ℕ
 byte_texel Alpha piece start = rgba 0 0 0 (slice_index piece start)
@@ -55,10 +45,6 @@ byte_texel Rgba piece start =
 byte_texel Luminance piece start = rgba (slice_index piece start) (slice_index piece start) (slice_index piece start) 255
 byte_texel LuminanceAlpha piece start =
     rgba (slice_index piece start) (slice_index piece start) (slice_index piece start) (slice_index piece (start + 1))
-
--- two bytes as a number, the low one first
-abbrev pub short_at : List ℕ → ℕ → ℕ
-short_at piece start = from_le_bytes w16 (two_at piece start)
 
 -- the texels of packed numbers: the first component is in the high bits
 abbrev pub texel_4444 : ℕ → ℕ

@@ -1,11 +1,12 @@
 //! How the bytes of a texel are laid out, one type for each way.
 ghost use Rattle.std.specs.Prelude.{◌≡◌, ℕ, List, ◌+◌, ◌*◌, ◌<◌, ◌^◌, map, slice_index, OnOk, ◌++◌};
 ghost use Rattle.std.specs.List.{range_with_len};
-ghost use Rattle.pixel_unpack.specs.Texel.{rgba, short_at, texel_4444, texel_5551, texel_565, byte_texel};
+ghost use Rattle.gl_records.specs.BytesAt.{short_at};
+ghost use Rattle.pixel_unpack.specs.Texel.{rgba, texel_4444, texel_5551, texel_565, byte_texel};
 ghost use Rattle.gl_tokens.specs.declared.base_format.BaseFormat.TheVariants as base;
 
-use crate::bytes::{byte_at, four_at, short_at, three_at, two_at};
 use crate::component::{five_bits, four_bits, one_bit, six_bits};
+use gl_records::{byte_at, four_at, short_at, three_at, two_at};
 use std::alloc::AllocError;
 
 /// How the bytes of a texel are laid out.

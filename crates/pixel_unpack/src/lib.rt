@@ -12,7 +12,6 @@
 //! ```
 #![tactic(auto)]
 
-mod bytes;
 mod component;
 mod image;
 mod layout;

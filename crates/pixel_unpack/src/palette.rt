@@ -2,8 +2,8 @@
 ghost use Rattle.std.specs.Prelude.{◌≡◌, ℕ, ◌+◌, ◌*◌, ◌<◌, ◌≤◌, ◌^◌, ◌++◌, ◌⊎◌, length, IfOk, OnOk};
 ghost use Rattle.pixel_unpack.specs.Palette.{index_bits, entry_format, entry_kind, entries, entries_bytes, index_at, named_texels};
 
-use crate::bytes::byte_at;
 use crate::image::{push_texels, texel_bytes};
+use gl_records::byte_at;
 use gl_tokens::{BaseFormat, PaletteFormat, TexelType};
 use std::alloc::{AllocError, Global};
 
