@@ -83,7 +83,11 @@ mod tests {
             (normals, 0x12, [3, 4, 5, 6].as_slice()),
             (colors, 0x13, [2, 3, 4, 5, 6].as_slice()),
             (coordinates, 0x14, [2, 3, 4, 5, 6].as_slice()),
-            (Rec::ClientActiveTexture { texture: 7 }, 0x17, [7].as_slice()),
+            (
+                Rec::ClientActiveTexture { texture: 7 },
+                0x17,
+                [7].as_slice(),
+            ),
             (elements, 0x1E, [1, 0xFFFF_FFFE, 3, 5, 6].as_slice()),
         ];
         for (rec, opcode, words) in &table {

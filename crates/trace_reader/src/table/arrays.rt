@@ -65,7 +65,10 @@ pub fn row(alloc: Global, opcode: u16, n: &Words) -> Option<(Shape, Rec)>
         )),
         0x15 => Some((Shape::Exactly(1), Rec::EnableClientState { array: n[0] })),
         0x16 => Some((Shape::Exactly(1), Rec::DisableClientState { array: n[0] })),
-        0x17 => Some((Shape::Exactly(1), Rec::ClientActiveTexture { texture: n[0] })),
+        0x17 => Some((
+            Shape::Exactly(1),
+            Rec::ClientActiveTexture { texture: n[0] },
+        )),
         0x1D => Some((
             Shape::Exactly(3),
             Rec::DrawArrays {
@@ -117,11 +120,7 @@ pub fn spelling(rec: &Rec) -> Option<Spelled<'_>>
             stride,
             region,
             offset,
-        } => Some(Spelled::new(
-            rec,
-            0x12,
-            &[*kind, signed_word(stride), *region, *offset],
-        )),
+        } => Some(Spelled::new(rec, 0x12, &[*kind, signed_word(stride), *region, *offset])),
         Rec::ColorPointer {
             size,
             kind,
