@@ -1,10 +1,11 @@
 //! Which pixels of a tile a primitive covers, how much its corners count at a pixel, and its depth there.
 //!
-//! All is by the edge functions of a triangle at the centres of pixels, on whole numbers and without rounding,
-//! as the definitions of `gl_records` have it. A pixel whose centre lies on an edge belongs to the triangle on
-//! that side which the edge's direction names, so two triangles at an edge leave no gap and draw no pixel
-//! twice. Points and lines are not drawn yet: they cover no pixel. A caller shows that the primitive's numbers
-//! are in range, which is a part of its being valid for a surface.
+//! A triangle goes by its edge functions at the centres of pixels, on whole numbers and without rounding, as the
+//! definitions of `gl_records` have it. A pixel whose centre lies on an edge belongs to the triangle on that side
+//! which the edge's direction names, so two triangles at an edge leave no gap and draw no pixel twice. A line has
+//! a run of pixels in each column that it goes through, or in each row where it is steep; a point is a square of
+//! them. A caller shows that the primitive's numbers are in range, which is a part of its being valid for a
+//! surface.
 //!
 //! ```text
 //! let p = triangle((0, 0), (256, 0), (0, 256)); // corners in 1/16 pixel
@@ -17,6 +18,8 @@ mod at_pixel;
 mod edges;
 mod fill_rule;
 mod line;
+#[cfg(test)]
+mod line_tests;
 mod line_weights;
 mod point;
 mod run_bits;

@@ -5,9 +5,9 @@ use super::*;
 use gl_records::{PixelBox, Prim, PrimKind, TileRect, VertexOut};
 use std::process::Abort;
 
-const ORIGIN: TileRect = TileRect { x0: 0, y0: 0 };
+pub(crate) const ORIGIN: TileRect = TileRect { x0: 0, y0: 0 };
 
-fn corner(x: i32, y: i32, z: i32) -> VertexOut
+pub(crate) fn corner(x: i32, y: i32, z: i32) -> VertexOut
     requires x_from { negsuc 65535 ≤ℤ x }
     requires x_to { x ≤ℤ pos 98304 }
     requires y_from { negsuc 65535 ≤ℤ y }
@@ -137,7 +137,7 @@ fn weights_of_corners(rt: HostRuntime) {
 }
 
 /// The depth at a pixel of the first tile, where the primitive covers it.
-fn depth_in_tile(p: &Prim, x: u8, y: u8) -> Option<u32>
+pub(crate) fn depth_in_tile(p: &Prim, x: u8, y: u8) -> Option<u32>
     requires in_range { IsInRange p.now }
     requires column { x < 16 }
     requires row { y < 16 }

@@ -108,9 +108,10 @@ unfolding covers_run
 run_near width start minor_start end minor_end along across some h =
     let both = two_true (is_passed start end (center (pos along))) _ h in
     let passed = Passed-from start end (center (pos along)) both.0 in
-    let sides = minor_place-between start minor_start end minor_end (center (pos along)) passed in
-    (along_near start end width along passed,
-     across_near minor_start minor_end (minor_place start minor_start end minor_end (center (pos along))) width across some sides.0 sides.1 both.1)
+    let sides = minor_place-between start minor_start end minor_end (center (pos along)) passed in (
+      along_near start end width along passed,
+      across_near minor_start minor_end (minor_place start minor_start end minor_end (center (pos along))) width across some sides.0 sides.1 both.1,
+    )
 
 -- ---- lines
 by_axis : (a b : VertexOut) (width x y : ℕ) (m : Bool) → is_x_major a b ≡ m → 1 ≤ width → IsTrue (line_covers a b width (pos x) (pos y))

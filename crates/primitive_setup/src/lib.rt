@@ -19,6 +19,8 @@ mod clamping;
 mod cross;
 mod facing;
 mod line;
+#[cfg(test)]
+mod line_tests;
 mod offset;
 mod point;
 mod primitive;

@@ -8,9 +8,9 @@ use fx_arith::Fx;
 use gl_records::{ClipVertex, Prim, PrimKind, SetupRules, Size};
 use std::test::Fail;
 
-const SIZE: Size = Size { w: 16, h: 16 };
+pub(crate) const SIZE: Size = Size { w: 16, h: 16 };
 
-const FRONT: [u8; 4] = [255, 0, 128, 255];
+pub(crate) const FRONT: [u8; 4] = [255, 0, 128, 255];
 
 const BACK: [u8; 4] = [0, 255, 0, 255];
 
@@ -31,7 +31,7 @@ const SLOPE: [[i32; 4]; 3] = [
 /// Small numbers, of which no quotient is whole.
 const ODD: [[i32; 4]; 3] = [[-1, -3, -5, 7], [7, -7, 7, 7], [1, 5, 3, 9]];
 
-fn vertex(clip: [i32; 4]) -> ClipVertex
+pub(crate) fn vertex(clip: [i32; 4]) -> ClipVertex
     ensures { pos 1 ≤ℤ w_of result }
 {
     let w = clip[3].max(1);
@@ -46,7 +46,7 @@ fn vertex(clip: [i32; 4]) -> ClipVertex
 }
 
 /// Rules with a square viewport of 16 pixels.
-fn rules(
+pub(crate) fn rules(
     place: i32,
     front_ccw: bool,
     cull: Option<[bool; 2]>,
@@ -195,7 +195,4 @@ fn nothing(rt: HostRuntime) {
         made(&plain, &thin(-61440), false).is_some(),
         "a column of centres at its right side"
     );
-    let v = [vertex(a), vertex(b), vertex(a)];
-    assert_eq!(rt; setup(&plain, PrimKind::Line, &v, SIZE), None);
-    assert_eq!(rt; setup(&plain, PrimKind::Point, &v, SIZE), None);
 }
