@@ -1,4 +1,3 @@
 pub mod Refusals
 pub mod Stated
 pub mod Stepped
-pub mod Vertices

@@ -2,6 +2,7 @@
 ghost use Rattle.std.specs.Prelude.{◌≡◌, ◌++◌, [], map, option_to_list, None, IsNone, IfSome};
 ghost use Rattle.gl_records.specs.Captured.{captured};
 ghost use Rattle.gl_records.specs.Size.{IsSize};
+ghost use Rattle.gl_records.specs.declared.size.Size.{Size as SizeOf};
 ghost use Rattle.gl_records.specs.Valid.{IsDrawable};
 ghost use Rattle.vertex_fetch.specs.Draws.{vertex_count};
 ghost use Rattle.draw_front.specs.Call.{commanded};
@@ -86,13 +87,11 @@ impl Pending {
 /// What a draw of so many vertices is to draw: nothing where it has an error, or where the vertex array is off.
 fn pending_draw(context: &Context, rec: Rec, mode: u32, count: i32) -> Pending
     requires { vertex_count rec ≡ count }
-    ensures { result ≡ pending_draw_of context.now rec mode count }
+    ensures valid { (size : SizeOf) → IsPending size result }
+    ensures value { result ≡ pending_draw_of context.now rec mode count }
 {
-    if draw_error(&rec).is_some() {
-        return Pending::Nothing;
-    }
-    match Mode::from_code(mode) {
-        Some(mode) => {
+    match (draw_error(&rec), Mode::from_code(mode)) {
+        (None, Some(mode)) => {
             if context.arrays.enabled(ArrayKind::Vertex) {
                 let amount = count.unsigned_abs();
                 Pending::Draw(Draw::new(draw_state(&context.state), rec, mode, amount))
@@ -100,6 +99,6 @@ fn pending_draw(context: &Context, rec: Rec, mode: u32, count: i32) -> Pending
                 Pending::Nothing
             }
         }
-        None => Pending::Nothing,
+        _ => Pending::Nothing,
     }
 }

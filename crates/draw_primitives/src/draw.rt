@@ -1,8 +1,9 @@
 //! A draw, and what is still to come of it.
-ghost use Rattle.std.specs.Prelude.{◌≡◌, ◌<◌, ◌≤◌, ◌++◌, [], drop, IsNone, IfSome, option_to_list};
+ghost use Rattle.std.specs.Prelude.{◌≡◌, ◌<◌, ◌≤◌, ◌++◌, [], drop, None, IsNone, IfSome, option_to_list, unsigned_abs};
 ghost use Rattle.gl_records.specs.SetupRules.{AreRulesInRange};
 ghost use Rattle.gl_records.specs.Valid.{IsValid};
 ghost use Rattle.prim_assembly.specs.Primitives.{primitives};
+ghost use Rattle.vertex_fetch.specs.Draws.{draw_error, vertex_count};
 ghost use Rattle.draw_primitives.specs.Draw.{HasVertices, all_of, kind_of as kind_of_mode, primitives_left, set_up_all};
 ghost use Rattle.draw_primitives.specs.Fan.{set_up};
 
@@ -54,11 +55,13 @@ impl Model for Draw {
 }
 
 impl Draw {
-    /// A draw of `amount` vertices, with all of its primitives to come. The record is that of a draw without error, of at least
-    /// so many vertices.
+    /// A draw with all of its primitives to come. The record is DrawArrays or DrawElements without error, and `amount` is the
+    /// number of its vertices.
+    #[tactic(auto, using(crate::proofs::Vertices::has_vertices))]
     pub fn new(state: DrawState, rec: Rec, mode: Mode, amount: u32) -> Draw
         requires rules { AreRulesInRange state.rules }
-        requires vertices { HasVertices rec amount }
+        requires allowed { draw_error rec ≡ None }
+        requires vertices { amount ≡ unsigned_abs (vertex_count rec) }
         ensures { result ≡ all_of state rec mode amount }
     {
         Draw {

@@ -18,3 +18,6 @@ mod fan;
 
 pub use draw::Draw;
 pub use draw_state::DrawState;
+
+#[cfg(test)]
+mod tests;

@@ -2,7 +2,7 @@ use Rattle.std.proofs.Common.{◌≡◌}
 use Rattle.draw_front.specs.Context.{Context}
 use Rattle.draw_front.proofs.Stated.{IsOfState, stated-run, stated-unchanged}
 use Rattle.draw_front.proofs.context.Context.run.Goals as goal
-use Rattle.draw_front.proofs.context.Context.run.Goals.{in-ClientBytes-3, in-End-3}
+use Rattle.draw_front.proofs.context.Context.run.Goals.{in-ClientBytes-4, in-End-4}
 
 pub returns-in_default : goal.returns-in_default
 returns-in_default c =
@@ -27,7 +27,7 @@ returns-in_default c =
     let inside = c.self.inside in
     let before : Context = record { state = inside.state; flag = inside.flag; arrays = inside.arrays; regions = inside.regions } in
     let is : next ≡ (let after : Context = record before { state = c.apply.new.self } in after) =
-    elim c.match-rec-4.branch [ in-ClientBytes-3 w ↦ w.self-is | in-End-3 w ↦ w.self-is ] in
+    elim c.match-rec-4.branch [ in-ClientBytes-4 w ↦ w.self-is | in-End-4 w ↦ w.self-is ] in
     record {
       run = stated-run before now next c.args.rec c.apply.new.self c.apply.result of c.self.view_is is c.apply.ensures.run;
       unchanged = stated-unchanged before now next c.apply.new.self c.apply.result c.self.view_is is c.apply.ensures.unchanged;
