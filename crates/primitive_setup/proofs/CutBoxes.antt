@@ -1,6 +1,6 @@
 -- Boxes about lines and points, cut to the surface: what they hold, and that what is made with them is valid.
 use Rattle.std.proofs.Common.{◌≡◌, ℕ, ◌<◌, ◌≤◌, inl, inr, ap, sym, ◌∙◌, refl, lit<, arith}
-use Rattle.std.specs.Prelude.{ℤ, pos, negsuc, ◌+ℤ◌, ◌-ℤ◌, ◌*ℤ◌, ◌≤ℤ◌, ◌<ℤ◌, ◌↔◌, Bool, true, false, ◌&&◌, [], ◌∷◌, IsTrue, Option, Some, None, int_le, int_lt}
+use Rattle.std.specs.Prelude.{ℤ, pos, ◌+ℤ◌, ◌≤ℤ◌, ◌<ℤ◌, Bool, true, false, ◌&&◌, [], ◌∷◌, IsTrue, Option, Some, None, int_le, int_lt}
 use Rattle.std.specs.Int.{int_max, int_min}
 use Rattle.std.proofs.lemmas.Int.{ints, clamps}
 use Rattle.fx_arith.specs.Number.{floor_div}

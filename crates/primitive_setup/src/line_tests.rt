@@ -97,7 +97,10 @@ fn corners(rt: HostRuntime) -> Result<(), Fail> {
         ((40, 136), (104, 7), (104, 7))
     );
     assert_eq!(rt; (a.z, b.z), (8388607, 8388607), "no offset");
-    assert_eq!(rt; (a.rgba, b.rgba), (FRONT, FRONT));
+    let first = a.rgba;
+    let second = b.rgba;
+    assert_eq!(rt; first, FRONT);
+    assert_eq!(rt; second, FRONT);
     let prim = made(PrimKind::Point, 40, 0, (40, 136), (104, 7)).ok_or("point")?;
     let [a, b, c] = prim.verts;
     assert_eq!(rt; (prim.kind, prim.width), (PrimKind::Point, 40));
@@ -105,6 +108,8 @@ fn corners(rt: HostRuntime) -> Result<(), Fail> {
         ((a.x, a.y), (b.x, b.y), (c.x, c.y)),
         ((40, 136), (40, 136), (40, 136))
     );
-    assert_eq!(rt; (a.z, a.rgba), (8388607, FRONT));
+    let color = a.rgba;
+    assert_eq!(rt; color, FRONT);
+    assert_eq!(rt; a.z, 8388607);
     Ok(())
 }
