@@ -3,5 +3,4 @@
 
 mod command_lines;
 mod faults;
-mod interpolation;
 mod support;

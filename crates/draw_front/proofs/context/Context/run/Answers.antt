@@ -7,7 +7,7 @@ use Rattle.draw_front.proofs.context.Context.run.Goals.{in-ClientBytes-4, in-End
 pub returns-in_default : goal.returns-in_default
 returns-in_default c =
     let now = c.args.self.now in
-    let next = c.match-rec-4.self in
+    let next = c.match-rec-5.self in
     let of : IsOfState c.args.rec = record {
       error = c.in_default.not-GetError;
       get = c.in_default.not-Get;
@@ -24,11 +24,11 @@ returns-in_default c =
       elements = c.in_default.not-DrawElements;
       clear = c.in_default.not-Clear;
     } in
-    let inside = c.self.inside in
+    let inside = c.self-in_default.inside in
     let before : Context = record { state = inside.state; flag = inside.flag; arrays = inside.arrays; regions = inside.regions } in
     let is : next ≡ (let after : Context = record before { state = c.apply.new.self } in after) =
-    elim c.match-rec-4.branch [ in-ClientBytes-4 w ↦ w.self-is | in-End-4 w ↦ w.self-is ] in
+    elim c.match-rec-5.branch [ in-ClientBytes-4 w ↦ w.self-is | in-End-4 w ↦ w.self-is ] in
     record {
-      run = stated-run before now next c.args.rec c.apply.new.self c.apply.result of c.self.view_is is c.apply.ensures.run;
-      unchanged = stated-unchanged before now next c.apply.new.self c.apply.result c.self.view_is is c.apply.ensures.unchanged;
+      run = stated-run before now next c.args.rec c.apply.new.self c.apply.result of c.self-in_default.view_is is c.apply.ensures.run;
+      unchanged = stated-unchanged before now next c.apply.new.self c.apply.result c.self-in_default.view_is is c.apply.ensures.unchanged;
     }
