@@ -19,6 +19,7 @@ pub mod LineCoverage
 pub mod LogicOp
 pub mod PixelBox
 pub mod PointCoverage
+pub mod Scissor
 pub mod SetupRules
 pub mod Size
 pub mod StencilTest

@@ -61,5 +61,5 @@ pub record IsValidClear (clear : ClearItem) (size : Size) : Type 0 where
 
 -- an item that a surface of this size can take
 abbrev pub IsDrawable : Captured → Size → Type 0
-IsDrawable (Draw prim) size = IsValid prim size
+IsDrawable (Draw prim state) size = IsValid prim size
 IsDrawable (Clear clear) size = IsValidClear clear size

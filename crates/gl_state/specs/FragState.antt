@@ -35,6 +35,10 @@ env environment = record {
 abbrev pub Image : Type 0
 Image = VersionId × BaseFormat × Sampler
 
+-- no image at either texture unit
+abbrev pub no_images : List (Option Image)
+no_images = None ∷ None ∷ []
+
 -- a texture unit, where texturing is on and there is an image
 abbrev pub unit : Bool → Environment → Option Image → Option UnitState
 unit false environment image = None

@@ -1,4 +1,5 @@
 pub mod Blending
+pub mod ClearItem
 pub mod Clears
 pub mod Current
 pub mod Environments

@@ -1,6 +1,5 @@
 -- The state of the commands, and what each command makes of it.
 use Rattle.std.specs.Prelude.{ℕ, Bool, true, false, ◌&&◌, [], ◌∷◌, Option, Some, None, Ok, if◌then◌else◌}
-use Rattle.gl_records.specs.declared.clear.ClearItem.{ClearItem}
 use Rattle.gl_records.specs.declared.rec.Rec.{Rec}
 use Rattle.gl_records.specs.declared.rec.Rec.TheVariants.{ClientActiveTexture, ActiveTexture, Color4x, Color4ub, Normal3x, MultiTexCoord4x, MatrixMode, LoadIdentity, LoadMatrixx, MultMatrixx, PushMatrix, PopMatrix, Rotatex, Scalex, Translatex, Frustumx, Orthox, Viewport, DepthRangex, CullFace, FrontFace, ShadeModel, PointSizex, LineWidthx, PolygonOffsetx, ClipPlanex, Hint, Enable, Disable, Fogx, LightModelx, Materialx, AlphaFuncx, StencilFunc, StencilOp, StencilMask, DepthFunc, DepthMask, Scissor, BlendFunc, LogicOp, ColorMask, ClearColorx, ClearDepthx, ClearStencil, TexEnvx, PixelStorei}
 use Rattle.gl_records.specs.declared.setup_rules.SetupRules.{SetupRules}
@@ -176,10 +175,6 @@ setup_rules s = record {
   point = raster.in_pixels raster.greatest_point s.raster.point_size;
   line = raster.in_pixels raster.greatest_line s.raster.line_width;
 }
-
--- the Clear that a mask asks for; none where it names no buffer
-abbrev pub clear_item : State → ℕ → Size → Option ClearItem
-clear_item s mask size = clears.clear_item s.clears mask size
 
 -- the alignments of unpacking and of packing, in bytes
 abbrev pub aligns : State → ℕ × ℕ

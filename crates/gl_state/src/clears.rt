@@ -1,21 +1,19 @@
-ghost use Rattle.std.specs.Prelude.{◌≡◌, ◌≤◌, IfSome};
+ghost use Rattle.std.specs.Prelude.{◌≡◌, ◌≤◌};
 ghost use Rattle.gl_records.specs.declared.pixel.TheConstants.{GREATEST_DEPTH as THE_GREATEST};
-ghost use Rattle.gl_records.specs.Size.{IsSize};
-ghost use Rattle.gl_records.specs.Valid.{IsValidClear};
-ghost use Rattle.gl_state.specs.Clears.{opening_clears, with_color, with_depth, with_stencil, clear_error as clear_error_of, surface_depth as surface_depth_of, clear_of as clear_to, clear_item as clear_item_of};
+ghost use Rattle.gl_state.specs.Clears.{opening_clears, with_color, with_depth, with_stencil, clear_error as clear_error_of, surface_depth as surface_depth_of};
 
 use crate::unit_fx::UnitFx;
 use crate::values::low_byte_signed;
-use fx_arith::{Fx, c8, in_unit};
-use gl_records::{ClearItem, GREATEST_DEPTH, PixelBox, Size};
+use fx_arith::{Fx, in_unit};
+use gl_records::GREATEST_DEPTH;
 use gl_tokens::GlError;
 
 /// The bits of a Clear's mask (OpenGL ES 1.1.12, 4.2.3).
-const COLOR_BIT: u32 = 0x4000;
+pub(crate) const COLOR_BIT: u32 = 0x4000;
 
-const DEPTH_BIT: u32 = 0x0100;
+pub(crate) const DEPTH_BIT: u32 = 0x0100;
 
-const STENCIL_BIT: u32 = 0x0400;
+pub(crate) const STENCIL_BIT: u32 = 0x0400;
 
 const CLEAR_BITS: u32 = COLOR_BIT | DEPTH_BIT | STENCIL_BIT;
 
@@ -60,38 +58,10 @@ impl Clears {
     {
         self.stencil = low_byte_signed(stencil);
     }
-
-    /// The Clear of the buffers that the mask names, none where it names none.
-    pub(crate) fn item(&self, mask: u32, size: Size) -> Option<ClearItem>
-        requires { IsSize size }
-        ensures value { result ≡ clear_item_of self.now mask size }
-        ensures valid { IfSome result (λ clear. IsValidClear clear size) }
-    {
-        let clear = self.clear(mask, size);
-        if clear.has_part() { Some(clear) } else { None }
-    }
-
-    fn clear(&self, mask: u32, size: Size) -> ClearItem
-        ensures { result ≡ clear_to self.now mask size }
-    {
-        let [red, green, blue, alpha] = self.color;
-        let color = [c8(red), c8(green), c8(blue), c8(alpha)];
-        ClearItem {
-            area: PixelBox {
-                x0: 0,
-                y0: 0,
-                x1: i32::from(size.w),
-                y1: i32::from(size.h),
-            },
-            color: (mask & COLOR_BIT != 0).then_some((color, [true; 4])),
-            depth: (mask & DEPTH_BIT != 0).then_some(surface_depth(self.depth)),
-            stencil: (mask & STENCIL_BIT != 0).then_some((self.stencil, 0xff)),
-        }
-    }
 }
 
 /// A depth as the surface has it, rounded down.
-fn surface_depth(depth: UnitFx) -> u32
+pub(crate) fn surface_depth(depth: UnitFx) -> u32
     ensures value { result ≡ surface_depth_of depth }
     ensures to { result ≤ THE_GREATEST }
 {

@@ -87,7 +87,7 @@ fn env(environment: &Environment) -> Env
 }
 
 /// The bytes of a colour R G B A.
-fn bytes(color: [Fx; 4]) -> [u8; 4]
+pub(crate) fn bytes(color: [Fx; 4]) -> [u8; 4]
     ensures { result ≡ bytes_of color }
 {
     let [red, green, blue, alpha] = color;
@@ -95,7 +95,7 @@ fn bytes(color: [Fx; 4]) -> [u8; 4]
 }
 
 /// The scissor box; where a side would end past the greatest number it ends there.
-fn scissor_box(tests: &FragmentTests) -> PixelBox
+pub(crate) fn scissor_box(tests: &FragmentTests) -> PixelBox
     ensures { result ≡ scissor_box_of tests.now }
 {
     PixelBox {

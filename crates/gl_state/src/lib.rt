@@ -13,6 +13,7 @@
 
 mod alignment;
 mod blending;
+mod clear_item;
 mod clears;
 mod current;
 mod environments;

@@ -7,7 +7,7 @@ ghost use Rattle.gl_state.specs.Raster.{clip_plane as clip_plane_of, is_flat};
 ghost use Rattle.gl_state.specs.Values.{vector as vector_of};
 ghost use Rattle.matrix_stacks.specs.Eye.{plane_to_eye as plane_in_eye};
 ghost use Rattle.matrix_stacks.specs.Stack.{top};
-ghost use Rattle.gl_state.specs.State.{opening_state, active_texture as active_texture_of, on_raster, ran, followed, switch as switch_of, setup_rules as setup_rules_of, unit_number, clear_item as clear_item_of, aligns as aligns_of};
+ghost use Rattle.gl_state.specs.State.{opening_state, active_texture as active_texture_of, on_raster, ran, followed, switch as switch_of, setup_rules as setup_rules_of, unit_number, aligns as aligns_of};
 
 use crate::blending::Blending;
 use crate::clears::Clears;
@@ -390,15 +390,6 @@ impl State {
         ensures { result ≡ aligns_of self.now }
     {
         (self.pixels.unpack.bytes(), self.pixels.pack.bytes())
-    }
-
-    /// The Clear that this mask asks for, None exactly where it names no buffer.
-    pub fn clear_item(&self, mask: u32, size: Size) -> Option<ClearItem>
-        requires { IsSize size }
-        ensures value { result ≡ clear_item_of self.now mask size }
-        ensures valid { IfSome result (λ clear. IsValidClear clear size) }
-    {
-        self.clears.item(mask, size)
     }
 }
 

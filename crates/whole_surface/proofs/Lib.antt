@@ -1,5 +1,4 @@
-pub mod Drawings
-pub mod PartLemmas
-pub mod RowLemmas
+pub mod Bits
 pub mod ShadeLemmas
-pub mod WholeLemmas
+pub mod Spans
+pub mod TileLemmas

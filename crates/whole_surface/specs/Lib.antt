@@ -1,4 +1,4 @@
 pub mod Flat
 pub mod Mean
+pub mod Paints
 pub mod Parts
-pub mod Rows

@@ -1,34 +1,63 @@
-//! A Clear on the whole surface.
-ghost use Rattle.std.specs.Prelude.{◌≡◌, ◌≤◌, [], ◌∷◌, vec_len, All};
-ghost use Rattle.gl_records.specs.Surface.{drawn, drawn_row};
+//! A Clear on one tile.
+ghost use Rattle.std.specs.Prelude.{◌≡◌, ◌+◌, ◌*◌, ◌<◌, ◌≤◌, IfSome};
 ghost use Rattle.gl_records.specs.Captured.{Clear};
-ghost use Rattle.whole_surface.specs.Rows.{rows_of};
+ghost use Rattle.whole_surface.specs.Paints.{IsWipeOf};
+ghost use Rattle.whole_surface.specs.Parts.{IsSpan, tile_step};
 
-use crate::surface::Row;
+use crate::wipe::Wipe;
 use fragment_ops::clear_step;
-use gl_records::{ClearItem, GREATEST_SIDE};
+use gl_records::{ClearItem, GREATEST_SIDE, TileRect};
+use surface_tiles::Tile;
 
-/// Clears each pixel that the area holds.
-pub fn clear_rows(clear: &ClearItem, rows: &mut Vec<Row>)
-    requires few { vec_len rows.old ≤ GREATEST_SIDE }
-    requires short { All (λ row. vec_len row ≤ GREATEST_SIDE) rows.old.items }
-    ensures drawn { rows_of rows.new.items ≡ drawn (Clear clear.now ∷ []) (rows_of rows.old.items) }
-    ensures few { vec_len rows.new ≤ GREATEST_SIDE }
-    ensures short { All (λ row. vec_len row ≤ GREATEST_SIDE) rows.new.items }
+/// Clears the pixels of the tile that the area holds.
+pub fn clear_on_tile(clear: &ClearItem, wipe: &Option<Wipe>, rect: TileRect, tile: &mut Tile)
+    requires wipe { IfSome wipe.now (IsWipeOf clear.now) }
+    requires column { rect.x0 ≤ GREATEST_SIDE }
+    requires band { rect.y0 ≤ GREATEST_SIDE }
+    ensures { IsSpan (tile_step (Clear clear.now) rect) 0 256 tile.old tile.new }
 {
-    for y in 0..rows.len() {
-        clear_row(clear, y as u16, &mut rows[y]);
+    for r in 0..16u16 {
+        clear_row(clear, wipe, rect, r, tile);
     }
 }
 
-fn clear_row(clear: &ClearItem, y: u16, row: &mut Row)
-    requires { vec_len row.old ≤ GREATEST_SIDE }
-    ensures drawn { row.new.items ≡ drawn_row (Clear clear.now ∷ []) y row.old.items }
-    ensures len { vec_len row.new ≡ vec_len row.old }
+/// Clears row `r` of the tile: at once where the area holds all of it and no mask keeps a bit.
+fn clear_row(clear: &ClearItem, wipe: &Option<Wipe>, rect: TileRect, r: u16, tile: &mut Tile)
+    requires wipe { IfSome wipe.now (IsWipeOf clear.now) }
+    requires column { rect.x0 ≤ GREATEST_SIDE }
+    requires band { rect.y0 ≤ GREATEST_SIDE }
+    requires row { r < 16 }
+    ensures { IsSpan (tile_step (Clear clear.now) rect) (16 * r) (16 * r + 16) tile.old tile.new }
 {
-    for x in 0..row.len() {
-        if clear.area.holds(x as u16, y) {
-            row[x] = clear_step(clear, row[x]);
+    let y = rect.y0 + r;
+    match wipe {
+        Some(wipe) if clear.area.holds(rect.x0, y) && clear.area.holds(rect.x0 + 15, y) => {
+            wipe.wipe_row(usize::from(r), tile)
         }
+        _ => clear_pixels(clear, rect, r, tile),
+    }
+}
+
+fn clear_pixels(clear: &ClearItem, rect: TileRect, r: u16, tile: &mut Tile)
+    requires column { rect.x0 ≤ GREATEST_SIDE }
+    requires band { rect.y0 ≤ GREATEST_SIDE }
+    requires row { r < 16 }
+    ensures { IsSpan (tile_step (Clear clear.now) rect) (16 * r) (16 * r + 16) tile.old tile.new }
+{
+    for i in 0..16u16 {
+        clear_pixel(clear, rect, r, i, tile);
+    }
+}
+
+fn clear_pixel(clear: &ClearItem, rect: TileRect, r: u16, i: u16, tile: &mut Tile)
+    requires column { rect.x0 ≤ GREATEST_SIDE }
+    requires band { rect.y0 ≤ GREATEST_SIDE }
+    requires row { r < 16 }
+    requires pixel { i < 16 }
+    ensures { IsSpan (tile_step (Clear clear.now) rect) (16 * r + i) (16 * r + (i + 1)) tile.old tile.new }
+{
+    if clear.area.holds(rect.x0 + i, rect.y0 + r) {
+        let place = usize::from(16 * r + i);
+        tile.pixels[place] = clear_step(clear, tile.pixels[place]);
     }
 }

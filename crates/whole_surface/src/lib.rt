@@ -2,20 +2,24 @@
 //! the next.
 //!
 //! A surface is seen as the list of its rows, and what an item makes of it is `drawn` of `gl_records`: pixel by
-//! pixel, with no tile and no order of pixels. The code goes by tiles, and only through those that meet a
-//! primitive's bounds. `glplay` draws a frame's items on it in their order, and puts the rows out.
+//! pixel, with no tile and no order of pixels. The code goes by the tiles that an item's box meets; what the item fixes
+//! for all of its pixels is found out once. `glplay` draws a frame's items on it in their order, and puts the rows out.
 //!
 //! ```text
 //! let mut surface = Surface::new(alloc, size)?;
 //! surface.draw(size, &item); // a primitive that is valid for this size, or a Clear
-//! surface.rows() // the rows from the bottom, each with its pixels from the left
+//! surface.row(size, 0, &mut bytes); // the colours of the lowest row
 //! ```
 #![tactic(auto)]
 
 mod clear;
-mod opening;
-mod raster;
+mod fragments;
+mod items;
+mod paint;
+mod primitive;
+mod rows;
 mod shade;
 mod surface;
+mod wipe;
 
-pub use surface::{Row, Surface};
+pub use surface::Surface;

@@ -42,7 +42,7 @@ pub fn color_at(prim: &Prim, flat: Option<[u8; 4]>, x: u16, y: u16) -> [u8; 4]
 
 /// The mean of the corners' colours at the centre of pixel (x, y), where each counts by its weight times its q
 /// (OpenGL 1.5, 3.5.1).
-fn mean_color(prim: &Prim, x: u16, y: u16) -> [u8; 4]
+pub fn mean_color(prim: &Prim, x: u16, y: u16) -> [u8; 4]
     requires in_range { IsInRange prim.now }
     requires covered { IsTrue (covers prim.now (pos x) (pos y)) }
     ensures { result ≡ interpolated_color prim.now (pos x) (pos y) }

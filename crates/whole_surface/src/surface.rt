@@ -1,38 +1,34 @@
 //! The whole surface, on which each item is drawn at once.
-ghost use Rattle.std.specs.Prelude.{◌≡◌, [], ◌∷◌, IfOk};
+ghost use Rattle.std.specs.Prelude.{◌≡◌, ◌*◌, ◌<◌, length, get_or, [], ◌∷◌, IfOk};
 ghost use Rattle.gl_records.specs.Captured.{captured};
 ghost use Rattle.gl_records.specs.Size.{IsSize};
-ghost use Rattle.gl_records.specs.Surface.{drawn, opening_surface, IsShaped};
+ghost use Rattle.gl_records.specs.Surface.{drawn, opening_surface, row_bytes, IsShaped};
 ghost use Rattle.gl_records.specs.Valid.{IsDrawable};
-ghost use Rattle.whole_surface.specs.Rows.{rows_of};
 
-use crate::clear::clear_rows;
-use crate::opening::opening_rows;
-use crate::raster::draw_prim;
-use gl_records::{Item, Pixel, Size};
+use crate::items::draw_item;
+use gl_records::{Item, Size};
 use std::alloc::{AllocError, Global};
 use std::marker::Model;
+use surface_tiles::Surface as Tiles;
 
-/// The pixels of a row of the surface, from the left.
-pub type Row = Vec<Pixel>;
-
-/// The whole surface: its rows from the bottom.
+/// The whole surface.
 #[derive(Drop)]
 pub struct Surface {
-    rows: Vec<Row>,
+    tiles: Tiles,
 }
 
 impl Model for Surface {
-    ghost use Rattle.std.specs.Prelude.{◌≤◌, List, vec_len, All};
+    ghost use Rattle.std.specs.Prelude.{◌≡◌, List, length};
     ghost use Rattle.gl_records.specs.declared.pixel.Pixel.{Pixel};
-    ghost use Rattle.gl_records.specs.declared.size.TheConstants.{GREATEST_SIDE};
-    ghost use Rattle.whole_surface.specs.Rows.{rows_of};
+    ghost use Rattle.gl_records.specs.Size.{IsSize};
+    ghost use Rattle.gl_records.specs.Tiles.{tile_count};
+    ghost use Rattle.surface_tiles.specs.Tiled.{surface_of};
 
     ghost Value = { List (List Pixel) };
 
-    ghost view = { λ surface. rows_of surface.rows.items };
+    ghost view = { λ surface. surface_of surface.tiles };
 
-    ghost invariant = { λ surface. (vec_len surface.rows ≤ GREATEST_SIDE) × All (λ row. vec_len row ≤ GREATEST_SIDE) surface.rows.items };
+    ghost invariant = { λ surface. IsSize surface.tiles.size × (length surface.tiles.tiles ≡ tile_count surface.tiles.size) };
 }
 
 impl Surface {
@@ -42,8 +38,8 @@ impl Surface {
         ensures value { IfOk result (λ surface. surface ≡ opening_surface size) }
         ensures shaped { IfOk result (λ surface. IsShaped size surface) }
     {
-        let rows = opening_rows(alloc, size)?;
-        Ok(Surface { rows })
+        let tiles = Tiles::new(alloc, size)?;
+        Ok(Surface { tiles })
     }
 
     /// Draws the item on each pixel. `size` is the surface's.
@@ -53,16 +49,16 @@ impl Surface {
         ensures drawn { self.new ≡ drawn (captured item.now ∷ []) self.old }
         ensures shaped { IsShaped size self.new }
     {
-        match item {
-            Item::Draw(prim) => draw_prim(prim, size, &mut self.rows),
-            Item::Clear(clear) => clear_rows(clear, &mut self.rows),
-        }
+        draw_item(item, size, self.tiles.tiles_mut());
     }
 
-    /// The rows from the bottom.
-    pub fn rows(&self) -> &[Row]
-        ensures { rows_of result.now ≡ self.now }
+    /// The colours of row `y` from the bottom, R G B A for each pixel from the left. `_size` is the surface's.
+    pub fn row(&self, _size: Size, y: u16, into: &mut [u8])
+        requires shaped { IsShaped _size self.now }
+        requires inside { y < _size.h }
+        requires whole { length into.old ≡ 4 * _size.w }
+        ensures { into.new ≡ row_bytes (get_or self.now y []) }
     {
-        self.rows.as_slice()
+        self.tiles.row(y, into);
     }
 }

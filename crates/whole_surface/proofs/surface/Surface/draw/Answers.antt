@@ -1,16 +1,38 @@
-use Rattle.std.proofs.Common.{[], ◌∷◌}
-use Rattle.gl_records.specs.Captured.{Draw, Clear}
-use Rattle.gl_records.specs.Surface.{IsShaped}
-use Rattle.whole_surface.specs.Rows.{rows_of}
-use Rattle.whole_surface.proofs.Drawings.{drawn-shaped}
+use Rattle.std.proofs.Common.{◌≡◌, ◌∙◌, List, [], ◌∷◌, length, ap, sym, subst}
+use Rattle.gl_records.specs.declared.pixel.Pixel.{Pixel}
+use Rattle.gl_records.specs.Captured.{captured}
+use Rattle.gl_records.specs.Surface.{IsShaped, drawn}
+use Rattle.gl_records.specs.Tiles.{tile_count}
+use Rattle.surface_tiles.specs.Tiled.{surface_of}
+use Rattle.surface_tiles.proofs.Whole.{same_size, shaped, with_tiles_is}
 use Rattle.whole_surface.proofs.surface.Surface.draw.Goals as goal
 
-pub returns-in-Draw-clause-shaped : goal.returns-in-Draw-clause-shaped
-returns-in-Draw-clause-shaped c =
-    let was : IsShaped c.args.size (rows_of c.self.inside.rows.items) = rw c.self.view_is c.requires.shaped in
-    rw c.draw_prim.ensures.drawn (drawn-shaped c.args.size (Draw c.in-Draw.prim ∷ []) _ was)
+pub draw_item-requires-clause-sides : goal.draw_item-requires-clause-sides
+draw_item-requires-clause-sides c =
+    let same = same_size c.args.size c.self.inside.tiles c.self.invariant.0 (rw c.self.view_is c.requires.shaped) in
+    rw same c.self.invariant.0
 
-pub returns-in-Clear-clause-shaped : goal.returns-in-Clear-clause-shaped
-returns-in-Clear-clause-shaped c =
-    let was : IsShaped c.args.size (rows_of c.self.inside.rows.items) = rw c.self.view_is c.requires.shaped in
-    rw c.clear_rows.ensures.drawn (drawn-shaped c.args.size (Clear c.in-Clear.clear ∷ []) _ was)
+pub draw_item-requires-clause-count : goal.draw_item-requires-clause-count
+draw_item-requires-clause-count c =
+    let same = same_size c.args.size c.self.inside.tiles c.self.invariant.0 (rw c.self.view_is c.requires.shaped) in
+    c.tiles_mut.ensures.count ∙ ap tile_count (sym same)
+
+pub returns-clause-drawn : goal.returns-clause-drawn
+returns-clause-drawn c =
+    let tiled = c.self.inside.tiles in
+    let tiles = c.draw_item.new.tiles in
+    let items = captured c.args.item.now ∷ [] in
+    let same = same_size c.args.size tiled c.self.invariant.0 (rw c.self.view_is c.requires.shaped) in
+    let len : length tiles ≡ length tiled.tiles = c.draw_item.ensures.count ∙ ap tile_count same ∙ sym c.self.invariant.1 in
+    let drew : surface_of (record { size = tiled.size; tiles = tiles }) ≡ drawn items (surface_of (record { size = tiled.size; tiles = tiled.tiles })) =
+    rw (same, c.tiles_mut.ensures.value) at c.draw_item.ensures.drawn in
+    ap surface_of (with_tiles_is tiled tiles len) ∙ drew ∙ ap (λ (surface : List (List Pixel)). drawn items surface) c.self.view_is
+
+pub returns-clause-shaped : goal.returns-clause-shaped
+returns-clause-shaped c =
+    let tiled = c.self.inside.tiles in
+    let tiles = c.draw_item.new.tiles in
+    let same = same_size c.args.size tiled c.self.invariant.0 (rw c.self.view_is c.requires.shaped) in
+    let len : length tiles ≡ length tiled.tiles = c.draw_item.ensures.count ∙ ap tile_count same ∙ sym c.self.invariant.1 in
+    let is : IsShaped c.args.size (surface_of (record { size = tiled.size; tiles = tiles })) = rw same (shaped (record { size = tiled.size; tiles = tiles })) in
+    subst (λ (surface : List (List Pixel)). IsShaped c.args.size surface) (sym (ap surface_of (with_tiles_is tiled tiles len))) is

@@ -1,0 +1,57 @@
+-- Bits of rows under a box.
+use Rattle.std.proofs.Common.{◌≡◌, ◌∙◌, ◌<◌, ◌+◌, ◌-◌, ◌*◌, ◌/◌, ◌≤◌, ◌%◌, ℕ, Bool, true, false, ◌&&◌, refl, arith, min}
+use Rattle.std.specs.Prelude.{if◌then◌else◌, bit_and, bit_or, bit_xor}
+use Rattle.std.specs.Int.Bits.{and_zero_r, or_zero_l}
+use Rattle.std.proofs.lemmas.Bool.{false≢true}
+use Rattle.std.proofs.lemmas.Nat.{and_mask}
+use Rattle.std.proofs.lemmas.Nat.Bits.{bit_at-zero}
+use Rattle.std.specs.Int.{bit_at}
+use Rattle.gl_records.specs.declared.frag_state.FragState.{FragState}
+use Rattle.gl_records.specs.declared.pixel.Pixel.{Pixel}
+use Rattle.gl_records.specs.declared.prim.Primitive.{Primitive}
+use Rattle.gl_records.specs.declared.tile.TileRect.{TileRect}
+use Rattle.gl_records.specs.Captured.{Draw}
+use Rattle.gl_records.specs.After.{step}
+use Rattle.whole_surface.specs.Parts.{shown, tile_step}
+
+-- a bit under a column's bit, in a row that the box has
+pub held_bit : (column low high : Bool) (bit : ℕ) → bit < 2 → low ≡ true → high ≡ true
+    → min bit (if column then 1 else 0) ≡ (if column && low && high then bit else 0)
+held_bit true true true bit small h i = omega arith
+held_bit false true true bit small h i = omega arith
+held_bit column false high bit small h i = absurd (false≢true h)
+held_bit column true false bit small h i = absurd (false≢true i)
+
+-- a bit that is there where the one and the other hold
+pub both_bits : (covered held : Bool) (bit : ℕ) → bit ≡ (if covered then 1 else 0) → (if held then bit else 0) ≡ (if covered && held then 1 else 0)
+both_bits true true bit e = e
+both_bits true false bit e = refl
+both_bits false true bit e = e
+both_bits false false bit e = refl
+
+-- a value that is written under no mask
+pub whole_value : (value under : ℕ) → value < 256 → bit_or (bit_and under (bit_xor 255 255)) (bit_and value 255) ≡ value
+whole_value value under small =
+    let kept : bit_and value 255 ≡ value % 256 = and_mask value 8 in
+    let fits : value % 256 ≡ value = omega arith in
+    rw (and_zero_r under, or_zero_l (bit_and value 255), kept, fits) refl
+
+-- ---- where no bit is set, no pixel is shown
+clear_bit : (b : Bool) (bit : ℕ) → bit ≡ (if b then 1 else 0) → bit ≡ 0 → b ≡ false
+clear_bit true bit e zero = absurd (omega arith)
+clear_bit false bit e zero = refl
+
+step-unshown : (prim : Primitive) (state : FragState) (x y : ℕ) (pixel : Pixel) → shown prim state x y ≡ false → step (Draw prim state) x y pixel ≡ pixel
+step-unshown prim state x y pixel h = rw h refl
+
+pub unshown : (prim : Primitive) (state : FragState) (rect : TileRect) (r bits : ℕ) → bits ≡ 0
+    → ((i : ℕ) → i < 16 → bit_at bits i ≡ (if shown prim state (rect.x0 + i) (rect.y0 + r) then 1 else 0))
+    → (k : ℕ) (pixel : Pixel) → 16 * r ≤ k → k < 16 * r + 16 → tile_step (Draw prim state) rect k pixel ≡ pixel
+unshown prim state rect r bits none told k pixel low high =
+    let i = k - 16 * r in
+    let less : i < 16 = omega arith in
+    let column : i ≡ k % 16 = omega arith in
+    let row : r ≡ k / 16 = omega arith in
+    let zero : bit_at bits i ≡ 0 = rw none (bit_at-zero i) in
+    let off : shown prim state (rect.x0 + i) (rect.y0 + r) ≡ false = clear_bit _ (bit_at bits i) (told i less) zero in
+    step-unshown prim state (rect.x0 + k % 16) (rect.y0 + k / 16) pixel (rw (column, row) at off)

@@ -1,0 +1,141 @@
+//! An item on the tiles that its box meets.
+ghost use Rattle.std.specs.Prelude.{◌≡◌, pos, ◌+◌, ◌*◌, ◌<◌, ◌≤◌, ◌+ℤ◌, ◌<ℤ◌, ◌≤ℤ◌, length, [], ◌∷◌};
+ghost use Rattle.gl_records.specs.Captured.{captured};
+ghost use Rattle.gl_records.specs.Size.{IsSize};
+ghost use Rattle.gl_records.specs.Surface.{drawn};
+ghost use Rattle.gl_records.specs.Tiles.{tile_count, tiles_along as tiles_along_of};
+ghost use Rattle.gl_records.specs.Valid.{IsDrawable};
+ghost use Rattle.surface_tiles.specs.Tiled.{surface_of};
+ghost use Rattle.whole_surface.specs.Paints.{IsPaintOf};
+ghost use Rattle.whole_surface.specs.Parts.{AreDrawn, HoldsColumns, HoldsRows, IsSpan, box_of, tile_step};
+
+use crate::clear::clear_on_tile;
+use crate::paint::Paint;
+use crate::primitive::draw_on_tile;
+use gl_records::{GREATEST_SIDE, Item, PixelBox, Size, TileRect};
+use surface_tiles::Tile;
+
+/// Draws the item on the tiles of a surface of this size.
+pub fn draw_item(item: &Item, size: Size, tiles: &mut [Tile])
+    requires sides { IsSize size }
+    requires drawable { IsDrawable (captured item.now) size }
+    requires count { length tiles.old ≡ tile_count size }
+    ensures drawn { surface_of (record { size = size; tiles = tiles.new })
+        ≡ drawn (captured item.now ∷ []) (surface_of (record { size = size; tiles = tiles.old })) }
+    ensures count { length tiles.new ≡ tile_count size }
+{
+    let paint = Paint::of(item, size);
+    let area = box_of_item(item);
+    let columns = tiles_of(area.x0, area.x1);
+    let bands = tiles_of(area.y0, area.y1);
+    draw_bands(item, &paint, size, columns, bands, tiles);
+}
+
+/// The box that holds all that the item touches.
+fn box_of_item(item: &Item) -> PixelBox
+    ensures { result ≡ box_of (captured item.now) }
+{
+    match item {
+        Item::Draw(prim, _) => prim.bounds,
+        Item::Clear(clear) => clear.area,
+    }
+}
+
+/// Tiles that lie side by side, numbered along the surface.
+#[derive(Clone, Copy)]
+struct Span {
+    first: u16,
+    /// The tile after the last.
+    end: u16,
+}
+
+/// The tiles that hold the pixels `from` to `to - 1`, and no others.
+fn tiles_of(from: i32, to: i32) -> Span
+    requires from_in { pos 0 ≤ℤ from }
+    requires to_in { to ≤ℤ pos GREATEST_SIDE }
+    requires some { from <ℤ to }
+    ensures first { pos (16 * result.first) ≤ℤ from }
+    ensures first_meets { from <ℤ pos (16 * result.first + 16) }
+    ensures end { to ≤ℤ pos (16 * result.end) }
+    ensures last_meets { pos (16 * result.end) <ℤ (to +ℤ pos 16) }
+    ensures some { result.first < result.end }
+    ensures few { result.end ≤ 64 }
+{
+    Span {
+        first: (from / 16) as u16,
+        end: ((to + 15) / 16) as u16,
+    }
+}
+
+fn draw_bands(
+    item: &Item,
+    paint: &Paint,
+    size: Size,
+    columns: Span,
+    bands: Span,
+    tiles: &mut [Tile],
+)
+    requires sides { IsSize size }
+    requires drawable { IsDrawable (captured item.now) size }
+    requires paint { IsPaintOf paint.now (captured item.now) }
+    requires count { length tiles.old ≡ tile_count size }
+    requires columns { HoldsColumns (box_of (captured item.now)) columns.first columns.end }
+    requires bands { HoldsRows (box_of (captured item.now)) bands.first bands.end }
+    requires across { columns.end ≤ tiles_along_of size.w }
+    requires up { bands.end ≤ tiles_along_of size.h }
+    requires some_column { columns.first ≤ columns.end }
+    requires some_band { bands.first ≤ bands.end }
+    ensures { AreDrawn (captured item.now) size 0 (tile_count size) tiles.old tiles.new }
+{
+    for band in bands.first..bands.end {
+        draw_band(item, paint, size, columns, band, tiles);
+    }
+}
+
+/// Draws the tiles of a band, which is numbered from the bottom.
+fn draw_band(item: &Item, paint: &Paint, size: Size, columns: Span, band: u16, tiles: &mut [Tile])
+    requires sides { IsSize size }
+    requires drawable { IsDrawable (captured item.now) size }
+    requires paint { IsPaintOf paint.now (captured item.now) }
+    requires count { length tiles.old ≡ tile_count size }
+    requires columns { HoldsColumns (box_of (captured item.now)) columns.first columns.end }
+    requires across { columns.end ≤ tiles_along_of size.w }
+    requires some_column { columns.first ≤ columns.end }
+    requires band { band < tiles_along_of size.h }
+    ensures { AreDrawn (captured item.now) size (band * tiles_along_of size.w) ((band + 1) * tiles_along_of size.w) tiles.old tiles.new }
+{
+    for column in columns.first..columns.end {
+        draw_at(item, paint, size, column, band, tiles);
+    }
+}
+
+fn draw_at(item: &Item, paint: &Paint, size: Size, column: u16, band: u16, tiles: &mut [Tile])
+    requires sides { IsSize size }
+    requires drawable { IsDrawable (captured item.now) size }
+    requires paint { IsPaintOf paint.now (captured item.now) }
+    requires count { length tiles.old ≡ tile_count size }
+    requires column { column < tiles_along_of size.w }
+    requires band { band < tiles_along_of size.h }
+    ensures { AreDrawn (captured item.now) size (band * tiles_along_of size.w + column) (band * tiles_along_of size.w + (column + 1)) tiles.old tiles.new }
+{
+    let across = (usize::from(size.w) + 15) / 16;
+    let number = usize::from(band) * across + usize::from(column);
+    let rect = TileRect {
+        x0: 16 * column,
+        y0: 16 * band,
+    };
+    draw_tile(item, paint, size, rect, &mut tiles[number]);
+}
+
+fn draw_tile(item: &Item, paint: &Paint, _size: Size, rect: TileRect, tile: &mut Tile)
+    requires drawable { IsDrawable (captured item.now) _size }
+    requires paint { IsPaintOf paint.now (captured item.now) }
+    requires column { rect.x0 ≤ GREATEST_SIDE }
+    requires band { rect.y0 ≤ GREATEST_SIDE }
+    ensures { IsSpan (tile_step (captured item.now) rect) 0 256 tile.old tile.new }
+{
+    match item {
+        Item::Draw(prim, state) => draw_on_tile(prim, state, paint, rect, tile),
+        Item::Clear(clear) => clear_on_tile(clear, &paint.wipe, rect, tile),
+    }
+}
