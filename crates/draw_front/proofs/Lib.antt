@@ -1,3 +1,4 @@
+pub mod Raised
 pub mod Refusals
 pub mod Stated
 pub mod Stepped

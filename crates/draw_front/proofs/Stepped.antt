@@ -3,12 +3,13 @@ use Rattle.std.proofs.Common.{◌≡◌, ◌∙◌, ◌+◌, ◌-◌, ◌++◌, 
 use Rattle.std.specs.Prelude.{option_to_list, if◌then◌else◌, unsigned_abs}
 use Rattle.draw_primitives.specs.Draw.{all_of, primitives_of}
 use Rattle.gl_records.specs.declared.clear.ClearItem.{ClearItem}
+use Rattle.gl_records.specs.declared.prim.Primitive.{Primitive}
 use Rattle.gl_records.specs.declared.rec.Rec.{Rec}
 use Rattle.gl_records.specs.declared.rec.Rec.TheVariants.{DrawArrays, DrawElements, Clear}
 use Rattle.gl_records.specs.declared.size.Size.{Size}
 use Rattle.gl_records.specs.Captured.{Captured}
 use Rattle.gl_records.specs.Captured as captured
-use Rattle.gl_state.specs.State.{clear_item}
+use Rattle.gl_state.specs.ClearItem.{clear_item}
 use Rattle.gl_tokens.specs.Mode as mode_codes
 use Rattle.gl_tokens.specs.declared.array_kind.ArrayKind.TheVariants.{Vertex}
 use Rattle.gl_tokens.specs.declared.gl_error.GlError.{GlError}
@@ -20,14 +21,14 @@ use Rattle.draw_front.specs.declared.pending.Pending.TheVariants as pending
 use Rattle.draw_front.specs.Call.{answered, commanded, items_of, line_of}
 use Rattle.draw_front.specs.Collecting.{Collecting, after_call, stepped}
 use Rattle.draw_front.specs.Context.{Context}
-use Rattle.draw_front.specs.Draws.{draw_state, drawn, source}
+use Rattle.draw_front.specs.Draws.{draw_state, drawn, fragments_of, source}
 use Rattle.draw_front.specs.Immediate.{joined}
 use Rattle.draw_front.specs.Pending.{items_left, pending_clear, pending_of, pending_vertices}
 
 -- a draw without error that is kept, whether there is a vertex array or not
 drawn-left : (size : Size) (context : Context) (rec : Rec) (mode : Mode) (n : ℕ) (on : Bool)
-    → items_left size context (if on then pending.Draw (all_of (draw_state context.state) rec mode n) else pending.Nothing)
-    ≡ (if on then map captured.Draw (primitives_of (draw_state context.state) (source context rec) size mode n) else [])
+    → items_left size context (if on then pending.Draw (fragments_of context.state) (all_of (draw_state context.state) rec mode n) else pending.Nothing)
+    ≡ (if on then map (λ (prim : Primitive). captured.Draw prim (fragments_of context.state)) (primitives_of (draw_state context.state) (source context rec) size mode n) else [])
 drawn-left size context rec mode n true = refl
 drawn-left size context rec mode n false = refl
 

@@ -11,7 +11,8 @@ use Rattle.gl_query.specs.Values.{one, truth}
 use Rattle.gl_state.specs.declared.state.State.{State}
 use Rattle.gl_state.specs.Clears.{clear_error}
 use Rattle.gl_state.specs.ErrorFlag.{raised, flag_code}
-use Rattle.gl_state.specs.State.{ran, clear_item}
+use Rattle.gl_state.specs.ClearItem.{clear_item}
+use Rattle.gl_state.specs.State.{ran}
 use Rattle.gl_tokens.specs.ArrayKind as array_kind
 use Rattle.gl_tokens.specs.Commands.{within}
 use Rattle.gl_tokens.specs.declared.array_kind.ArrayKind.{ArrayKind}

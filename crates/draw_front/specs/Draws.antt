@@ -2,11 +2,13 @@
 use Rattle.std.specs.Prelude.{ℕ, ℤ, List, [], map, Option, Some, None, if◌then◌else◌, unsigned_abs}
 use Rattle.draw_primitives.specs.declared.draw_state.DrawState.{DrawState}
 use Rattle.draw_primitives.specs.Draw.{Source, primitives_of}
+use Rattle.gl_records.specs.declared.frag_state.FragState.{FragState}
 use Rattle.gl_records.specs.declared.rec.Rec.{Rec}
 use Rattle.gl_records.specs.declared.size.Size.{Size}
 use Rattle.gl_records.specs.Captured.{Captured, Draw}
 use Rattle.gl_state.specs.declared.state.State.{State}
 use Rattle.gl_state.specs.Current.{attribs}
+use Rattle.gl_state.specs.FragState.{frag_state, no_images}
 use Rattle.gl_state.specs.Raster.{is_flat}
 use Rattle.gl_state.specs.State.{setup_rules}
 use Rattle.gl_state.specs.VertexState.{vertex_state}
@@ -25,6 +27,10 @@ draw_state s = record {
   rules = setup_rules s;
 }
 
+-- what happens to the fragments of a draw: as yet no texture unit has an image
+unfoldable pub fragments_of : State → FragState
+fragments_of s = frag_state s no_images
+
 -- where a draw takes its vertices from
 abbrev pub source : Context → Rec → Source
 source context rec = record { rec = rec; arrays = context.arrays; regions = context.regions }
@@ -32,7 +38,7 @@ source context rec = record { rec = rec; arrays = context.arrays; regions = cont
 -- the items of a draw of n vertices; without the vertex array it has none
 abbrev pub drawn : Size → Context → Rec → Option Mode → ℕ → List Captured
 drawn size context rec (Some mode) n =
-    if is_enabled context.arrays Vertex then map Draw (primitives_of (draw_state context.state) (source context rec) size mode n) else []
+    if is_enabled context.arrays Vertex then map (λ prim. Draw prim (fragments_of context.state)) (primitives_of (draw_state context.state) (source context rec) size mode n) else []
 drawn size context rec None n = []
 
 -- the items of a draw without error

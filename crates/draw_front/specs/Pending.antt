@@ -8,7 +8,7 @@ use Rattle.gl_records.specs.declared.size.Size.{Size}
 use Rattle.gl_records.specs.Captured.{Captured}
 use Rattle.gl_records.specs.Captured as captured
 use Rattle.gl_records.specs.Valid.{IsValidClear}
-use Rattle.gl_state.specs.State.{clear_item}
+use Rattle.gl_state.specs.ClearItem.{clear_item}
 use Rattle.gl_tokens.specs.Mode as mode_codes
 use Rattle.gl_tokens.specs.declared.array_kind.ArrayKind.TheVariants.{Vertex}
 use Rattle.gl_tokens.specs.declared.gl_error.GlError.{GlError}
@@ -18,19 +18,19 @@ use Rattle.vertex_fetch.specs.Draws.{draw_error}
 use Rattle.draw_front.specs.declared.pending.Pending.{Pending}
 use Rattle.draw_front.specs.declared.pending.Pending.TheVariants.{Nothing, Clear, Draw}
 use Rattle.draw_front.specs.Context.{Context}
-use Rattle.draw_front.specs.Draws.{draw_state}
+use Rattle.draw_front.specs.Draws.{draw_state, fragments_of}
 
 -- the items themselves
 abbrev pub items_left : Size → Context → Pending → List Captured
 items_left size context Nothing = []
 items_left size context (Clear clear) = captured.Clear clear ∷ []
-items_left size context (Draw rest) = map captured.Draw (primitives_left context.arrays context.regions size rest)
+items_left size context (Draw fragments rest) = map (λ prim. captured.Draw prim fragments) (primitives_left context.arrays context.regions size rest)
 
 -- what holds of them: a Clear can be drawn
 abbrev pub IsPending : Size → Pending → Type 0
 IsPending size Nothing = Unit {0}
 IsPending size (Clear clear) = IsValidClear clear size
-IsPending size (Draw rest) = Unit {0}
+IsPending size (Draw fragments rest) = Unit {0}
 
 -- how a Clear is kept
 abbrev pub pending_clear : Option ClearItem → Pending
@@ -40,7 +40,7 @@ pending_clear None = Nothing
 -- how a draw of n vertices is kept: nothing where it has an error, or where there is no vertex array
 abbrev pub pending_vertices : Context → Rec → Option GlError → Option Mode → ℕ → Pending
 pending_vertices context rec None (Some mode) n =
-    if is_enabled context.arrays Vertex then Draw (all_of (draw_state context.state) rec mode n) else Nothing
+    if is_enabled context.arrays Vertex then Draw (fragments_of context.state) (all_of (draw_state context.state) rec mode n) else Nothing
 pending_vertices context rec _ _ n = Nothing
 
 abbrev pub pending_draw : Context → Rec → ℕ → ℤ → Pending

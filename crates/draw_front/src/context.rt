@@ -1,7 +1,7 @@
 ghost use Rattle.std.specs.Prelude.{◌≡◌, OnSome};
 ghost use Rattle.gl_records.specs.Size.{IsSize};
 ghost use Rattle.gl_query.specs.Values.{answered, one as one_of, truth as truth_of};
-ghost use Rattle.draw_front.specs.Call.{answer_error, commanded, queried};
+ghost use Rattle.draw_front.specs.Call.{answer_error, commanded, queried, with_error};
 ghost use Rattle.draw_front.specs.Context.{opening_context};
 ghost use Rattle.gl_records.specs.declared.rec.Rec.TheVariants.{ClientActiveTexture};
 
@@ -75,6 +75,13 @@ impl Context {
             Rec::Clear { mask } => clear_error(mask),
             rec => self.state.apply(&rec),
         }
+    }
+
+    /// Keeps the error in the flag, if that had none.
+    pub fn raise(&mut self, error: GlError)
+        ensures { self.new ≡ with_error self.old error }
+    {
+        self.flag.raise(error);
     }
 
     /// ClientActiveTexture: the arrays go by it, and the state has it for queries.

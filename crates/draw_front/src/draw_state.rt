@@ -1,8 +1,9 @@
 ghost use Rattle.std.specs.Prelude.{◌≡◌};
 ghost use Rattle.gl_records.specs.SetupRules.{AreRulesInRange};
-ghost use Rattle.draw_front.specs.Draws.{draw_state as draw_state_of};
+ghost use Rattle.draw_front.specs.Draws.{draw_state as draw_state_of, fragments_of};
 
 use draw_primitives::DrawState;
+use gl_records::FragState;
 use gl_state::State;
 
 /// What the state fixes for a draw at this moment.
@@ -16,4 +17,12 @@ pub fn draw_state(state: &State) -> DrawState
         flat: state.flat(),
         rules: state.setup_rules(),
     }
+}
+
+/// What happens to the fragments of a draw at this moment. As yet no texture unit has an image.
+#[tactic(auto, unfolding(crate::specs::Draws::fragments_of))]
+pub fn fragments(state: &State) -> FragState
+    ensures { result ≡ fragments_of state.now }
+{
+    state.frag_state([None, None])
 }

@@ -118,7 +118,7 @@ impl Front {
         if append_raise(self.alloc, &mut self.lines, self.index, error).is_err() {
             return Err(self.run_out());
         }
-        self.context.flag.raise(error);
+        self.context.raise(error);
         self.line_count += 1;
         self.index += 1;
         Ok(Step::Quiet)

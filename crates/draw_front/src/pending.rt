@@ -9,9 +9,9 @@ ghost use Rattle.draw_front.specs.Call.{commanded};
 ghost use Rattle.draw_front.specs.Pending.{IsPending, items_left, pending_draw as pending_draw_of, pending_of};
 
 use crate::context::Context;
-use crate::draw_state::draw_state;
+use crate::draw_state::{draw_state, fragments};
 use draw_primitives::Draw;
-use gl_records::{ClearItem, Item, Rec, Size};
+use gl_records::{ClearItem, FragState, Item, Rec, Size};
 use gl_tokens::{ArrayKind, Mode};
 use vertex_fetch::draw_error;
 
@@ -20,7 +20,8 @@ use vertex_fetch::draw_error;
 pub enum Pending {
     Nothing,
     Clear(ClearItem),
-    Draw(Draw),
+    /// A draw, and what happens to its fragments.
+    Draw(FragState, Draw),
 }
 
 impl Pending {
@@ -76,8 +77,8 @@ impl Pending {
                 *self = Pending::Nothing;
                 Some(Item::Clear(clear))
             }
-            Pending::Draw(draw) => match draw.next(&context.arrays, &context.regions, size) {
-                Some(prim) => Some(Item::Draw(prim)),
+            Pending::Draw(fragments, draw) => match draw.next(&context.arrays, &context.regions, size) {
+                Some(prim) => Some(Item::Draw(prim, *fragments)),
                 None => None,
             },
         }
@@ -93,8 +94,8 @@ fn pending_draw(context: &Context, rec: Rec, mode: u32, count: i32) -> Pending
     match (draw_error(&rec), Mode::from_code(mode)) {
         (None, Some(mode)) => {
             if context.arrays.enabled(ArrayKind::Vertex) {
-                let amount = count.unsigned_abs();
-                Pending::Draw(Draw::new(draw_state(&context.state), rec, mode, amount))
+                let draw = Draw::new(draw_state(&context.state), rec, mode, count.unsigned_abs());
+                Pending::Draw(fragments(&context.state), draw)
             } else {
                 Pending::Nothing
             }

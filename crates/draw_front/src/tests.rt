@@ -49,7 +49,7 @@ fn vertices(alloc: Global) -> Result<Bytes, AllocError> {
 /// The places of an item's corners, in 1/16 pixel, and its colour; none of a Clear.
 fn corners(item: &Item) -> Option<([(i32, i32); 3], [u8; 4])> {
     match item {
-        Item::Draw(prim) => {
+        Item::Draw(prim, _) => {
             let [a, b, c] = &prim.verts;
             Some(([(a.x, a.y), (b.x, b.y), (c.x, c.y)], a.rgba))
         }
