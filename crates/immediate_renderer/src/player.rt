@@ -73,6 +73,7 @@ impl Player {
 
     /// Puts the surface as a frame, where the step asks for it.
     fn present<F: Sink>(&self, step: Step, index: u32, frames: &mut F) -> Result<(), Fault>
+        requires { IsShaped self.now.front.size self.now.surface }
         ensures chunk { Puts result (F.held frames.old) (F.held frames.new) (presented self.now.front.size self.now.surface index step) }
         ensures write_fault { result ≡ Err Fault.WriteFault → Rose (F.faults frames.old) (F.faults frames.new) }
         ensures no_read_fault { result ≢ Err Fault.ReadFault }

@@ -13,5 +13,5 @@ returns-in_err-put-clause-frame g c =
 pub returns-clause-frame : goal.returns-clause-frame
 returns-clause-frame g c =
     let header = rw c.frame_header.ensures at c.in_ok-put.ensures.piece in
-    let rows = rw c.rows.ensures at c.put_rows.ensures.rows in
+    let rows = c.put_rows.ensures.rows in
     puts_after c.put_rows.result _ _ _ (frame_header c.args.index c.args.size) (surface_bytes c.args.surface.now) header rows

@@ -3,7 +3,7 @@ use Rattle.gl_records.specs.declared.size.Size.{Size}
 use Rattle.gl_records.specs.Captured.{Captured, captured}
 use Rattle.gl_records.specs.Surface.{IsShaped, drawn}
 use Rattle.draw_front.specs.Collecting.{Collecting}
-use Rattle.whole_surface.proofs.Drawings.{drawn-nil, drawn-cons}
+use Rattle.surface_tiles.proofs.Drawings.{drawn-nil, drawn-cons}
 use Rattle.immediate_renderer.proofs.player.Player.draw_items.Goals as goal
 
 pub items-preserved : goal.items-preserved
