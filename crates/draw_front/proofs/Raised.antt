@@ -1,5 +1,5 @@
 -- A front whose context's flag took an error: what is left is as it was.
-use Rattle.std.proofs.Common.{◌≡◌, ◌∙◌, ◌+◌, ℕ, Bool, List, [], ◌∷◌, ◌++◌, refl, sym, ap}
+use Rattle.std.proofs.Common.{◌≡◌, ◌∙◌, ◌+◌, ℕ, Bool, List, ◌++◌, refl, sym, ap}
 use Rattle.std.proofs.lemmas.List.{append-nil}
 use Rattle.gl_records.specs.declared.size.Size.{Size}
 use Rattle.gl_records.specs.Captured.{Captured}
@@ -10,7 +10,6 @@ use Rattle.draw_front.specs.declared.pending.Pending.TheVariants as pending
 use Rattle.draw_front.specs.Call.{with_error}
 use Rattle.draw_front.specs.Collecting.{Collecting, with_refusal}
 use Rattle.draw_front.specs.Context.{Context}
-use Rattle.draw_front.specs.Immediate.{joined}
 use Rattle.draw_front.specs.Pending.{items_left}
 
 left-raised : (size : Size) (context : Context) (error : GlError) (left : Pending) → items_left size (with_error context error) left ≡ items_left size context left

@@ -1,5 +1,5 @@
 -- Bits of rows under a box.
-use Rattle.std.proofs.Common.{◌≡◌, ◌∙◌, ◌<◌, ◌+◌, ◌-◌, ◌*◌, ◌/◌, ◌≤◌, ◌%◌, ℕ, Bool, true, false, ◌&&◌, refl, arith, min}
+use Rattle.std.proofs.Common.{◌≡◌, ◌<◌, ◌+◌, ◌-◌, ◌*◌, ◌/◌, ◌≤◌, ◌%◌, ℕ, Bool, true, false, ◌&&◌, refl, arith, min}
 use Rattle.std.specs.Prelude.{if◌then◌else◌, bit_and, bit_or, bit_xor}
 use Rattle.std.specs.Int.Bits.{and_zero_r, or_zero_l}
 use Rattle.std.proofs.lemmas.Bool.{false≢true}

@@ -1,5 +1,5 @@
 -- An item on a list of tiles: tiles side by side join, tiles outside of its box stay, one tile is drawn.
-use Rattle.std.specs.Prelude.{◌≡◌, ◌≢◌, ℕ, pos, ◌+◌, ◌-◌, ◌*◌, ◌/◌, ◌%◌, ◌<◌, ◌≤◌, ◌≤ℤ◌, ◌<ℤ◌, ◌⊎◌, Bool, false, ◌&&◌, List, [], ◌∷◌, length, get_or, slice_set, IsTrue, int_le, int_lt, if◌then◌else◌}
+use Rattle.std.specs.Prelude.{◌≡◌, ◌≢◌, ℕ, pos, ◌+◌, ◌-◌, ◌*◌, ◌/◌, ◌%◌, ◌<◌, ◌≤◌, ◌≤ℤ◌, ◌<ℤ◌, ◌⊎◌, false, ◌&&◌, List, [], ◌∷◌, length, get_or, slice_set, IsTrue, int_le, int_lt}
 use Rattle.std.proofs.Common.{refl, sym, ap, inl, inr, ◌∙◌, arith}
 use Rattle.std.proofs.lemmas.Bool.{and_parts, and_left, cases_lt, false_from_ne_true}
 use Rattle.std.proofs.lemmas.Int.{ints}

@@ -1,5 +1,5 @@
 -- What an item fixes for all of the pixels that it touches.
-use Rattle.std.specs.Prelude.{◌≡◌, ℕ, Bool, true, false, ◌&&◌, List, Option, Some, None, IfSome, is_none, slice_index_or, unwrap_or}
+use Rattle.std.specs.Prelude.{◌≡◌, Bool, false, ◌&&◌, IfSome, is_none, slice_index_or, unwrap_or}
 use Rattle.gl_records.specs.declared.clear.ClearItem.{ClearItem}
 use Rattle.gl_records.specs.declared.frag_state.FragState.{FragState}
 use Rattle.gl_records.specs.declared.pixel.Pixel.{Pixel}

@@ -1,4 +1,4 @@
-use Rattle.std.proofs.Common.{◌+◌, ◌*◌}
+use Rattle.std.proofs.Common.{◌*◌}
 use Rattle.gl_records.specs.Captured.{Clear}
 use Rattle.whole_surface.specs.Parts.{IsSpan, tile_step}
 use Rattle.whole_surface.proofs.clear.clear_on_tile.Given as goal

@@ -1,4 +1,4 @@
-use Rattle.std.proofs.Common.{◌+◌, ◌*◌}
+use Rattle.std.proofs.Common.{◌*◌}
 use Rattle.gl_records.specs.Captured.{captured}
 use Rattle.gl_records.specs.Tiles.{tiles_along}
 use Rattle.whole_surface.specs.Parts.{AreDrawn}

@@ -1,4 +1,4 @@
-use Rattle.std.proofs.Common.{◌≡◌, ◌<◌, ◌≤◌, ◌+◌, ◌*◌, ℕ, arith}
+use Rattle.std.proofs.Common.{◌≡◌, arith}
 use Rattle.whole_surface.specs.Parts.{pixel_in}
 use Rattle.whole_surface.proofs.Bits.{unshown}
 use Rattle.whole_surface.proofs.Spans.{span_same}

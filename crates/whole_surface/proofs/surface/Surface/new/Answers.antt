@@ -1,6 +1,5 @@
-use Rattle.std.proofs.Common.{◌≡◌, ◌∙◌, List, ap, sym, rules}
-use Rattle.gl_records.specs.Surface.{IsShaped}
-use Rattle.surface_tiles.specs.Tiled.{Tiled, surface_of, opening_tiles}
+use Rattle.std.proofs.Common.{◌≡◌, ◌∙◌, ap, rules}
+use Rattle.surface_tiles.specs.Tiled.{surface_of, opening_tiles}
 use Rattle.surface_tiles.proofs.Whole.{opened, shaped}
 use Rattle.whole_surface.proofs.surface.Surface.new.Goals as goal
 

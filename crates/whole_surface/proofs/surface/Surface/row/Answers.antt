@@ -1,4 +1,4 @@
-use Rattle.std.proofs.Common.{◌≡◌, ◌∙◌, ◌*◌, ◌<◌, ℕ, List, [], get_or, ap, sym}
+use Rattle.std.proofs.Common.{◌∙◌, ◌*◌, ◌<◌, List, [], get_or, ap, sym}
 use Rattle.gl_records.specs.declared.pixel.Pixel.{Pixel}
 use Rattle.gl_records.specs.declared.size.Size.{Size}
 use Rattle.gl_records.specs.Surface.{row_bytes}
