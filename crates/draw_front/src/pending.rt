@@ -77,7 +77,11 @@ impl Pending {
                 *self = Pending::Nothing;
                 Some(Item::Clear(clear))
             }
-            Pending::Draw(fragments, draw) => match draw.next(&context.arrays, &context.regions, size) {
+            Pending::Draw(fragments, draw) => match draw.next(
+                &context.arrays,
+                &context.regions,
+                size,
+            ) {
                 Some(prim) => Some(Item::Draw(prim, *fragments)),
                 None => None,
             },

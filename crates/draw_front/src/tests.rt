@@ -11,11 +11,11 @@ use std::thread::Threads;
 
 const SIZE: Size = Size { w: 16, h: 16 };
 
-/// x y of nine vertices: a triangle over half of the surface, one with a corner outside of the clip volume, and one
+/// x y of nine vertices: a triangle over half of the surface, one outside of the clip volume, and one
 /// over an eighth.
 const VERTICES: [i32; 18] = [
     -65536, -65536, 65536, -65536, -65536, 65536, //
-    0, 0, 65537, 0, 0, 65536, //
+    131072, 0, 196608, 0, 131072, 65536, //
     0, 0, 65536, 0, 0, 65536,
 ];
 

@@ -1,10 +1,13 @@
 //! The pieces of clipped primitives, counted pixel by pixel.
+ghost use Rattle.gl_records.specs.Valid.{IsInRange};
+
 use super::*;
 use coverage::rows;
 use fx_arith::{Fx, Mat4};
 use gl_records::{Attribs, Bytes, Material, Prim, Rec, SetupRules, Size, TileRect, VertexState};
 use gl_tokens::Mode;
-use std::alloc::{AllocError, Global};
+use std::alloc::AllocError;
+use std::process::Abort;
 use std::test::Fail;
 use vertex_fetch::{Arrays, Regions, draw_error};
 
@@ -73,7 +76,9 @@ fn positions() -> Arrays {
 }
 
 /// Adds the pixels that a primitive covers.
-fn count(prim: &Prim, counts: &mut Counts) {
+fn count(prim: &Prim, counts: &mut Counts)
+    requires { IsInRange prim.now }
+{
     let bits = rows(prim, TileRect { x0: 0, y0: 0 });
     for r in 0..16 {
         for i in 0..16 {
@@ -83,7 +88,13 @@ fn count(prim: &Prim, counts: &mut Counts) {
 }
 
 /// Counts the pixels of a draw's primitives. `code` is the mode's.
-fn counted(alloc: Global, mode: Mode, code: u32, vertices: &[i32]) -> Result<Counts, AllocError> {
+fn counted<R: AllocGlobal + Abort>(
+    rt: &R,
+    mode: Mode,
+    code: u32,
+    vertices: &[i32],
+) -> Result<Counts, AllocError> {
+    let alloc = rt.alloc();
     let mut bytes = Vec::new(alloc);
     for coordinate in vertices {
         bytes.extend_from_slice(&coordinate.wrapping_mul(65536).to_le_bytes())?;
@@ -102,9 +113,13 @@ fn counted(alloc: Global, mode: Mode, code: u32, vertices: &[i32]) -> Result<Cou
         return Ok(counts);
     }
     let mut draw = Draw::new(opening(), rec, mode, count_of.unsigned_abs());
-    'prims: while let Some(prim) = draw.next(&arrays, &regions, SIZE) {
-        count(&prim, &mut counts);
+    // no draw here leaves as many pieces
+    for _ in 0..64 {
+        if let Some(prim) = draw.next(&arrays, &regions, SIZE) {
+            count(&prim, &mut counts);
+        }
     }
+    assert!(rt; draw.next(&arrays, &regions, SIZE).is_none());
     Ok(counts)
 }
 
@@ -112,7 +127,6 @@ fn counted(alloc: Global, mode: Mode, code: u32, vertices: &[i32]) -> Result<Cou
 // diagonal; four round the centre, whose shared edges are cut by both of their triangles.
 #[test]
 fn every_pixel_is_covered_once(rt: HostRuntime) -> Result<(), Fail> {
-    let alloc = rt.alloc();
     let once = [[1; 16]; 16];
     let draws: [(Mode, u32, &[i32]); 4] = [
         (Mode::Triangles, 4, &[-1, -1, 3, -1, -1, 3]),
@@ -125,7 +139,7 @@ fn every_pixel_is_covered_once(rt: HostRuntime) -> Result<(), Fail> {
         ),
     ];
     for (mode, code, vertices) in draws {
-        assert_eq!(rt; counted(alloc, mode, code, vertices)?, once);
+        assert_eq!(rt; counted(&rt, mode, code, vertices)?, once);
     }
     Ok(())
 }
