@@ -6,8 +6,7 @@ use coverage::rows;
 use fx_arith::{Fx, Mat4};
 use gl_records::{Attribs, Bytes, Material, Prim, Rec, SetupRules, Size, TileRect, VertexState};
 use gl_tokens::Mode;
-use std::alloc::AllocError;
-use std::process::Abort;
+use std::alloc::{AllocError, Global};
 use std::test::Fail;
 use vertex_fetch::{Arrays, Regions, draw_error};
 
@@ -87,14 +86,14 @@ fn count(prim: &Prim, counts: &mut Counts)
     }
 }
 
-/// Counts the pixels of a draw's primitives. `code` is the mode's.
-fn counted<R: AllocGlobal + Abort>(
-    rt: &R,
+/// Counts the pixels of a draw's primitives. `code` is the mode's, and `amount` the number of vertices x y.
+fn counted(
+    alloc: Global,
     mode: Mode,
     code: u32,
+    amount: i32,
     vertices: &[i32],
 ) -> Result<Counts, AllocError> {
-    let alloc = rt.alloc();
     let mut bytes = Vec::new(alloc);
     for coordinate in vertices {
         bytes.extend_from_slice(&coordinate.wrapping_mul(65536).to_le_bytes())?;
@@ -102,24 +101,22 @@ fn counted<R: AllocGlobal + Abort>(
     let mut regions = Regions::new(alloc);
     regions.set(0, Bytes::new(bytes));
     let arrays = positions();
-    let count_of = (vertices.len() / 2) as i32;
     let rec = Rec::DrawArrays {
         mode: code,
         first: 0,
-        count: count_of,
+        count: amount,
     };
     let mut counts = [[0; 16]; 16];
     if draw_error(&rec).is_some() {
         return Ok(counts);
     }
-    let mut draw = Draw::new(opening(), rec, mode, count_of.unsigned_abs());
+    let mut draw = Draw::new(opening(), rec, mode, amount.unsigned_abs());
     // no draw here leaves as many pieces
     for _ in 0..64 {
         if let Some(prim) = draw.next(&arrays, &regions, SIZE) {
             count(&prim, &mut counts);
         }
     }
-    assert!(rt; draw.next(&arrays, &regions, SIZE).is_none());
     Ok(counts)
 }
 
@@ -128,18 +125,19 @@ fn counted<R: AllocGlobal + Abort>(
 #[test]
 fn every_pixel_is_covered_once(rt: HostRuntime) -> Result<(), Fail> {
     let once = [[1; 16]; 16];
-    let draws: [(Mode, u32, &[i32]); 4] = [
-        (Mode::Triangles, 4, &[-1, -1, 3, -1, -1, 3]),
-        (Mode::Triangles, 4, &[-9, -8, 9, -7, 1, 17]),
-        (Mode::TriangleStrip, 5, &[-2, -2, 2, -2, -2, 2, 2, 2]),
+    let draws: [(Mode, u32, i32, &[i32]); 4] = [
+        (Mode::Triangles, 4, 3, &[-1, -1, 3, -1, -1, 3]),
+        (Mode::Triangles, 4, 3, &[-9, -8, 9, -7, 1, 17]),
+        (Mode::TriangleStrip, 5, 4, &[-2, -2, 2, -2, -2, 2, 2, 2]),
         (
             Mode::TriangleFan,
+            6,
             6,
             &[0, 0, -3, -2, 2, -3, 3, 2, -2, 3, -3, -2],
         ),
     ];
-    for (mode, code, vertices) in draws {
-        assert_eq!(rt; counted(&rt, mode, code, vertices)?, once);
+    for (mode, code, amount, vertices) in draws {
+        assert_eq!(rt; counted(rt.alloc(), mode, code, amount, vertices)?, once);
     }
     Ok(())
 }

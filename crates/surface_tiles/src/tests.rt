@@ -1,5 +1,5 @@
 use crate::Surface;
-use gl_records::{Pixel, Size};
+use gl_records::Size;
 use std::test::Fail;
 
 /// On 20 by 5 pixels the second tile begins at column 16, and reaches beyond the surface.
@@ -20,15 +20,18 @@ fn pixels_by_their_places(rt: HostRuntime) -> Result<(), Fail> {
     ];
     for (x, y, want) in pixels {
         let found = match surface.pixel(x, y) {
-            Some(Pixel { rgba, .. }) => Some(rgba),
+            Some(pixel) => {
+                let color = pixel.rgba;
+                Some(color)
+            }
             None => None,
         };
         assert_eq!(rt; found, want);
     }
     let mut bytes = [9; 80];
     surface.row(1, &mut bytes);
-    assert_eq!(rt; bytes[75..], [0, 1, 2, 3, 4]);
+    assert_eq!(rt; &bytes[75..], [0, 1, 2, 3, 4].as_slice());
     surface.row(0, &mut bytes);
-    assert_eq!(rt; bytes[..], [0; 80]);
+    assert_eq!(rt; bytes, [0; 80]);
     Ok(())
 }
