@@ -1,4 +1,5 @@
 //! The pieces of clipped primitives, counted pixel by pixel.
+ghost use Rattle.gl_records.specs.SetupRules.{AreRulesInRange};
 ghost use Rattle.gl_records.specs.Valid.{IsInRange};
 
 use super::*;
@@ -17,7 +18,9 @@ const SIZE: Size = Size { w: 16, h: 16 };
 type Counts = [[u8; 16]; 16];
 
 /// The state before the first command, on one tile.
-fn opening() -> DrawState {
+fn opening() -> DrawState
+    ensures { AreRulesInRange result.rules }
+{
     let (black, white) = ([Fx::ZERO; 4], [Fx::ONE; 4]);
     DrawState {
         vertex: VertexState {

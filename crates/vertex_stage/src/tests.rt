@@ -105,7 +105,10 @@ fn has_normal(
     state.normalize = normalize;
     let [x, y, z] = normal;
     let [a, b, c] = want;
-    assert_eq!(rt; eye_normal(&state, [half(x), half(y), half(z)]), [Fx(a), Fx(b), Fx(c)]);
+    assert_eq!(rt;
+        eye_normal(&state, [half(x), half(y), half(z)]),
+        [Fx(a), Fx(b), Fx(c)]
+    );
 }
 
 // By 2, 1/2 and 4 along the axes a normal goes by 1/2, 2 and 1/4, and the third row of the inverse is 0 0 1/4. The shear that
