@@ -1,2 +1,5 @@
+pub mod Completes
 pub mod Drawings
 pub mod Lines
+pub mod Logarithms
+pub mod Ranges

@@ -31,4 +31,11 @@ impl Bytes {
     {
         self.items.as_slice()
     }
+
+    /// The bytes in a vector; none is copied.
+    pub fn into_vec(self) -> Vec<u8>
+        ensures { result.items ≡ self }
+    {
+        self.items
+    }
 }

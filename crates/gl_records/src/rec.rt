@@ -1,5 +1,6 @@
 use crate::bytes::Bytes;
 use crate::params::{Columns, Params};
+use crate::words::Words;
 use fx_arith::Fx;
 
 /// A record of a trace: one command with its arguments. The reader makes it of the bytes, and the context
@@ -22,6 +23,10 @@ pub enum Rec {
     /// Whether a capability or an array is on is answered (OpenGL ES 1.1.12, 6.1.1).
     IsEnabled {
         capability: u32,
+    },
+    /// Whether a name is that of a buffer object is answered (OpenGL ES 1.1.12, 6.1).
+    IsBuffer {
+        name: u32,
     },
     /// A client region holds these bytes from now on, and no others. Arrays are read from regions.
     ClientBytes {
@@ -119,6 +124,36 @@ pub enum Rec {
         t: Fx,
         r: Fx,
         q: Fx,
+    },
+    /// So many names that no buffer object has are given, and are names of buffer objects from here on
+    /// (OpenGL ES 1.1.12, 2.9).
+    GenBuffers {
+        count: i32,
+    },
+    /// These names, and the buffer objects that they name, are gone (OpenGL ES 1.1.12, 2.9).
+    DeleteBuffers {
+        names: Words,
+    },
+    /// The buffer object that a target speaks of from here on; with name 0 none (OpenGL ES 1.1.12, 2.9).
+    BindBuffer {
+        target: u32,
+        name: u32,
+    },
+    /// The bound buffer object holds `size` bytes from here on, and no others: those of the piece, zeros past its
+    /// end (OpenGL ES 1.1.12, 2.9).
+    BufferData {
+        target: u32,
+        usage: u32,
+        size: i32,
+        piece: Bytes,
+    },
+    /// `size` bytes of the bound buffer object, from this byte on, are those of the piece, zeros past its end
+    /// (OpenGL ES 1.1.12, 2.9).
+    BufferSubData {
+        target: u32,
+        offset: i32,
+        size: i32,
+        piece: Bytes,
     },
     /// Which matrices later commands act on (OpenGL ES 1.1.12, 2.10.2).
     MatrixMode {
@@ -237,6 +272,12 @@ pub enum Rec {
     },
     /// A parameter of fog (OpenGL ES 1.1.12, 3.8).
     Fogx {
+        parameter: u32,
+        values: Params,
+    },
+    /// A parameter of a light (OpenGL ES 1.1.12, 2.12.2).
+    Lightx {
+        light: u32,
         parameter: u32,
         values: Params,
     },

@@ -1,4 +1,7 @@
 ghost use Rattle.std.specs.Prelude.{◌≡◌};
+ghost use Rattle.std.specs.Borrow.{Lends, sem, Array, u32 as word_row};
+ghost use Rattle.gl_records.specs.Texels.{with_texels};
+ghost use Rattle.gl_records.specs.contracts.texels.Texels.{the_row};
 
 use std::marker::Model;
 
@@ -30,5 +33,20 @@ impl Texels {
         ensures { result.now ≡ self.now }
     {
         self.items.as_slice()
+    }
+
+    /// All of the texels, to be written; none comes or goes.
+    pub fn as_mut_slice(&mut self) -> &mut [u32]
+        ensures* lends { sem 𝓛 (Lends the_row (Array word_row 0) self.entry result (with_texels self.entry.now)) }
+        ensures value { result.now ≡ self.old }
+    {
+        self.items.as_mut_slice()
+    }
+
+    /// The texels in a vector; none is copied.
+    pub fn into_vec(self) -> Vec<u32>
+        ensures { result.items ≡ self }
+    {
+        self.items
     }
 }

@@ -1,6 +1,8 @@
 pub mod ArrayKind
 pub mod BaseFormat
 pub mod BlendFactor
+pub mod BufferTarget
+pub mod BufferUsage
 pub mod Cap
 pub mod Coded
 pub mod CombineFunc
@@ -19,6 +21,7 @@ pub mod GlError
 pub mod HintMode
 pub mod HintTarget
 pub mod LightModelParameter
+pub mod LightParameter
 pub mod LogicOp
 pub mod MaterialParameter
 pub mod MatrixMode

@@ -12,6 +12,8 @@
 mod array_kind;
 mod base_format;
 mod blend_factor;
+mod buffer_target;
+mod buffer_usage;
 mod cap;
 mod codes;
 mod combine_func;
@@ -29,6 +31,7 @@ mod gl_error;
 mod hint_mode;
 mod hint_target;
 mod light_model_parameter;
+mod light_parameter;
 mod logic_op;
 mod material_parameter;
 mod matrix_mode;
@@ -46,6 +49,8 @@ mod wrap;
 pub use array_kind::ArrayKind;
 pub use base_format::BaseFormat;
 pub use blend_factor::BlendFactor;
+pub use buffer_target::BufferTarget;
+pub use buffer_usage::BufferUsage;
 pub use cap::Cap;
 pub use combine_func::CombineFunc;
 pub use combine_operand::CombineOperand;
@@ -62,6 +67,7 @@ pub use gl_error::GlError;
 pub use hint_mode::HintMode;
 pub use hint_target::HintTarget;
 pub use light_model_parameter::LightModelParameter;
+pub use light_parameter::LightParameter;
 pub use logic_op::LogicOp;
 pub use material_parameter::MaterialParameter;
 pub use matrix_mode::MatrixMode;
@@ -87,6 +93,8 @@ mod tests {
             (BaseFormat::LuminanceAlpha.code(), 0x190A),
             (BlendFactor::OneMinusDestinationAlpha.code(), 0x0305),
             (BlendFactor::SourceAlphaSaturate.code(), 0x0308),
+            (BufferTarget::ElementArray.code(), 0x8893),
+            (BufferUsage::DynamicDraw.code(), 0x88E8),
             (Cap::Texture2D.code(), 0x0DE1),
             (Cap::Light7.code(), 0x4007),
             (Cap::SampleCoverage.code(), 0x80A0),
@@ -99,6 +107,7 @@ mod tests {
             (Filter::NearestMipmapLinear.code(), 0x2702),
             (FogMode::Linear.code(), 0x2601),
             (GlError::OutOfMemory.code(), 0x0505),
+            (LightParameter::QuadraticAttenuation.code(), 0x1209),
             (LogicOp::NoOp.code(), 0x1505),
             (LogicOp::OrReverse.code(), 0x150B),
             (MatrixMode::Projection.code(), 0x1701),
@@ -123,6 +132,8 @@ mod tests {
             (0x8077, ArrayKind::from_code(0x8077).is_some()),
             (0x1905, BaseFormat::from_code(0x1905).is_some()),
             (0x8001, BlendFactor::from_code(0x8001).is_some()),
+            (0x8894, BufferTarget::from_code(0x8894).is_some()),
+            (0x88E5, BufferUsage::from_code(0x88E5).is_some()),
             (0x4008, Cap::from_code(0x4008).is_some()),
             (0x3001, Cap::from_code(0x3001).is_some()),
             (0x8573, CombineFunc::from_code(0x8573).is_some()),
@@ -134,6 +145,7 @@ mod tests {
             (0x2704, Filter::from_code(0x2704).is_some()),
             (0x2600, FogMode::from_code(0x2600).is_some()),
             (0x0506, GlError::from_code(0x0506).is_some()),
+            (0x120A, LightParameter::from_code(0x120A).is_some()),
             (0x1510, LogicOp::from_code(0x1510).is_some()),
             (0x1800, MatrixMode::from_code(0x1800).is_some()),
             (7, Mode::from_code(7).is_some()),
