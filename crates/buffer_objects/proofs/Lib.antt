@@ -1,0 +1,4 @@
+pub mod Bound
+pub mod Keeping
+pub mod Keys
+pub mod Stored

@@ -1,0 +1,5 @@
+pub mod Tables
+pub mod Given
+pub mod Objects
+pub mod Totals
+pub mod Fresh
