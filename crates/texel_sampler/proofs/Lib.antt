@@ -1,0 +1,8 @@
+pub mod About
+pub mod Asking
+pub mod Blends
+pub mod Choices
+pub mod Examples
+pub mod Mantissas
+pub mod Masks
+pub mod Weighted

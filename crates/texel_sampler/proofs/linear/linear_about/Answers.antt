@@ -1,0 +1,28 @@
+use Rattle.std.proofs.Common.{◌≡◌, ◌∙◌, arith}
+use Rattle.std.specs.Prelude.{pos, ◌+ℤ◌, FitsSigned}
+use Rattle.std.specs.Int.{w64}
+use Rattle.std.proofs.lemmas.Int.{fits_signed_from_abs, ints, to_z-of_z}
+use Rattle.gl_records.specs.Texel.{fraction, lower, texel_about}
+use Rattle.texel_sampler.proofs.About.{linear_about-parts}
+use Rattle.texel_sampler.proofs.linear.linear_about.Goals as goal
+
+pub returns : goal.returns
+returns c =
+    let i = c.lower-i.result in
+    let j = c.lower-j.result in
+    let fits_u = c.ranges.u in
+    let fits_v = c.ranges.v in
+    let fits_i : FitsSigned w64 i = fits_signed_from_abs w64 i (omega (arith, ints)) in
+    let fits_j : FitsSigned w64 j = fits_signed_from_abs w64 j (omega (arith, ints)) in
+    let next_i : FitsSigned w64 (i +ℤ pos 1) = fits_signed_from_abs w64 (i +ℤ pos 1) (omega (arith, ints, c.lower-i.ensures.bound)) in
+    let next_j : FitsSigned w64 (j +ℤ pos 1) = fits_signed_from_abs w64 (j +ℤ pos 1) (omega (arith, ints, c.lower-j.ensures.bound)) in
+    let lower_i : i ≡ lower c.args.u = simp to_z-of_z at c.lower-i.ensures.value in
+    let lower_j : j ≡ lower c.args.v = simp to_z-of_z at c.lower-j.ensures.value in
+    let a : c.fraction.result ≡ fraction c.args.u = simp to_z-of_z at c.fraction.ensures in
+    let b : c.fraction-2.result ≡ fraction c.args.v = simp to_z-of_z at c.fraction-2.ensures in
+    let low_low : c.texel_about.result ≡ texel_about c.args.sampler c.args.level.now i j = simp to_z-of_z at c.texel_about.ensures in
+    let high_low : c.texel_about-2.result ≡ texel_about c.args.sampler c.args.level.now (i +ℤ pos 1) j = simp to_z-of_z at c.texel_about-2.ensures in
+    let low_high : c.texel_about-3.result ≡ texel_about c.args.sampler c.args.level.now i (j +ℤ pos 1) = simp to_z-of_z at c.texel_about-3.ensures in
+    let high_high : c.texel_about-4.result ≡ texel_about c.args.sampler c.args.level.now (i +ℤ pos 1) (j +ℤ pos 1) = simp to_z-of_z at c.texel_about-4.ensures in
+    c.weighted.ensures
+    ∙ linear_about-parts c.args.sampler c.args.level.now c.args.u c.args.v i j _ _ _ _ _ _ lower_i lower_j a b low_low high_low low_high high_high

@@ -1,0 +1,1 @@
+pub use Rattle.gl_records.specs.Sampling

@@ -1,0 +1,60 @@
+//! NEAREST: the texel in which the coordinates lie.
+ghost use Rattle.std.specs.Prelude.{◌≡◌, pos, ◌≤◌, ◌<◌, ◌^◌, ◌*◌, ◌*ℤ◌, false, length, unsigned_abs};
+ghost use Rattle.fx_arith.specs.Number.{floor_div};
+ghost use Rattle.gl_records.specs.Complete.{is_empty_level};
+ghost use Rattle.gl_records.specs.Texel.{nearest_place as nearest_along, nearest_texel as nearest_of, texel_about as texel_around, texel_at as texel_of_level};
+
+use crate::wrapping::wrapped;
+use fx_arith::Fx;
+use gl_records::{Level, Sampler};
+
+pub fn nearest_texel(sampler: Sampler, level: &Level, s: Fx, t: Fx) -> [u8; 4]
+    requires { is_empty_level level.now ≡ false }
+    ensures { result ≡ nearest_of sampler level.now s.0 t.0 }
+{
+    texel_about(
+        sampler,
+        level,
+        nearest_place(s, level.w),
+        nearest_place(t, level.h),
+    )
+}
+
+/// The place along a side of `side` texels in which the coordinate lies.
+fn nearest_place(coordinate: Fx, side: u16) -> i64
+    ensures { result ≡ nearest_along coordinate.0 side }
+{
+    along(i64::from(coordinate.0), side)
+}
+
+/// The place along a side of `side` units for a coordinate in 1/65536 side, rounded down.
+pub fn along(coordinate: i64, side: u16) -> i64
+    requires { unsigned_abs coordinate ≤ 2 ^ 39 }
+    ensures value { result ≡ floor_div (coordinate *ℤ pos side) 65536 }
+    ensures bound { unsigned_abs result ≤ 2 ^ 55 }
+{
+    (coordinate * i64::from(side)) >> 16
+}
+
+/// The texel at a place, which may lie outside of the level, R G B A.
+pub fn texel_about(sampler: Sampler, level: &Level, i: i64, j: i64) -> [u8; 4]
+    requires { is_empty_level level.now ≡ false }
+    ensures { result ≡ texel_around sampler level.now i j }
+{
+    texel_at(
+        level,
+        wrapped(sampler.wrap_s, level.w, i),
+        wrapped(sampler.wrap_t, level.h, j),
+    )
+}
+
+/// The texel in a column and a row, R G B A.
+fn texel_at(level: &Level, column: u16, row: u16) -> [u8; 4]
+    requires texels { length level.now.texels ≡ level.now.w * level.now.h }
+    requires column { column < level.now.w }
+    requires row { row < level.now.h }
+    ensures { result ≡ texel_of_level level.now column row }
+{
+    let texels = level.texels.as_slice();
+    texels[usize::from(row) * usize::from(level.w) + usize::from(column)].to_le_bytes()
+}
