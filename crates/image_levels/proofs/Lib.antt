@@ -1,0 +1,5 @@
+pub mod Chains
+pub mod Making
+pub mod Placing
+pub mod Replaced
+pub mod Rows

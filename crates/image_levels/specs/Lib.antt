@@ -1,0 +1,4 @@
+pub mod Levels
+pub mod Mipmaps
+pub mod SubImage
+pub mod Texels
