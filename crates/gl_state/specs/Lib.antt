@@ -8,6 +8,7 @@ pub mod Fog
 pub mod FragState
 pub mod FragmentTests
 pub mod Lighting
+pub mod Lights
 pub mod Pixels
 pub mod Raster
 pub mod State

@@ -1,5 +1,5 @@
 -- The material, and the lighting model (OpenGL ES 1.1.12, 2.12.2 and 2.12.3).
-use Rattle.std.specs.Prelude.{ℕ, pos, Bool, false, not, ◌==◌, ◌||◌, int_lt, List, [], ◌∷◌, Option, Result, Ok, if◌then◌else◌}
+use Rattle.std.specs.Prelude.{ℕ, pos, Bool, false, not, ◌==◌, List, [], ◌∷◌, Option, Result, Ok, if◌then◌else◌}
 use Rattle.fx_arith.specs.Number.{one, fixed}
 use Rattle.fx_arith.specs.declared.fx.Fx.{Fx}
 use Rattle.gl_records.specs.declared.material.Material.{Material}
@@ -15,7 +15,7 @@ use Rattle.gl_tokens.specs.declared.light_model_parameter.LightModelParameter.{L
 use Rattle.gl_tokens.specs.declared.light_model_parameter.LightModelParameter.TheVariants as model
 use Rattle.gl_tokens.specs.declared.material_parameter.MaterialParameter.{MaterialParameter}
 use Rattle.gl_tokens.specs.declared.material_parameter.MaterialParameter.TheVariants.{Ambient, Diffuse, Specular, Emission, Shininess, AmbientAndDiffuse}
-use Rattle.gl_state.specs.Values.{vector, word}
+use Rattle.gl_state.specs.Values.{is_exponent, vector, word}
 use Rattle.gl_state.specs.declared.lighting.Lighting.{Lighting}
 
 -- a grey of this brightness, opaque
@@ -52,9 +52,13 @@ light_model s code values = done s do
   parameter ← known (light_model_parameter.from_code_of code)
   Ok (with_model s parameter values)
 
+-- a material with this ambient and diffuse colour
+abbrev pub with_colors : Material → List Fx → Material
+with_colors m color = record m { ambient = color; diffuse = color }
+
 -- the ambient and the diffuse colour follow the current colour
 abbrev pub following : Lighting → List Fx → Lighting
-following s color = record s { material = record s.material { ambient = color; diffuse = color } }
+following s color = record s { material = with_colors s.material color }
 
 -- a parameter of the material; while it follows the current colour, its ambient and its diffuse colour stay
 abbrev pub with_material : Material → Bool → MaterialParameter → Params → Result Material GlError
@@ -65,7 +69,7 @@ with_material m follows AmbientAndDiffuse values =
 with_material m follows Specular values = Ok (record m { specular = vector values })
 with_material m follows Emission values = Ok (record m { emission = vector values })
 with_material m follows Shininess values =
-    unless (int_lt values.0.0 (pos 0) || int_lt (pos 8388608) values.0.0) InvalidValue (Ok (record m { shininess = values.0 }))
+    unless (not (is_exponent values.0)) InvalidValue (Ok (record m { shininess = values.0 }))
 
 -- Material, of both sides; whether it follows the current colour. The shininess is 0 to 128.
 abbrev pub material : Lighting → Bool → ℕ → ℕ → Params → Lighting × Option GlError

@@ -1,7 +1,7 @@
 -- The state of the commands, and what each command makes of it.
 use Rattle.std.specs.Prelude.{ℕ, Bool, true, false, ◌&&◌, [], ◌∷◌, Option, Some, None, Ok, if◌then◌else◌}
 use Rattle.gl_records.specs.declared.rec.Rec.{Rec}
-use Rattle.gl_records.specs.declared.rec.Rec.TheVariants.{ClientActiveTexture, ActiveTexture, Color4x, Color4ub, Normal3x, MultiTexCoord4x, MatrixMode, LoadIdentity, LoadMatrixx, MultMatrixx, PushMatrix, PopMatrix, Rotatex, Scalex, Translatex, Frustumx, Orthox, Viewport, DepthRangex, CullFace, FrontFace, ShadeModel, PointSizex, LineWidthx, PolygonOffsetx, ClipPlanex, Hint, Enable, Disable, Fogx, LightModelx, Materialx, AlphaFuncx, StencilFunc, StencilOp, StencilMask, DepthFunc, DepthMask, Scissor, BlendFunc, LogicOp, ColorMask, ClearColorx, ClearDepthx, ClearStencil, TexEnvx, PixelStorei}
+use Rattle.gl_records.specs.declared.rec.Rec.TheVariants.{ClientActiveTexture, ActiveTexture, Color4x, Color4ub, Normal3x, MultiTexCoord4x, MatrixMode, LoadIdentity, LoadMatrixx, MultMatrixx, PushMatrix, PopMatrix, Rotatex, Scalex, Translatex, Frustumx, Orthox, Viewport, DepthRangex, CullFace, FrontFace, ShadeModel, PointSizex, LineWidthx, PolygonOffsetx, ClipPlanex, Hint, Enable, Disable, Fogx, Lightx, LightModelx, Materialx, AlphaFuncx, StencilFunc, StencilOp, StencilMask, DepthFunc, DepthMask, Scissor, BlendFunc, LogicOp, ColorMask, ClearColorx, ClearDepthx, ClearStencil, TexEnvx, PixelStorei}
 use Rattle.gl_records.specs.declared.setup_rules.SetupRules.{SetupRules}
 use Rattle.gl_records.specs.declared.size.Size.{Size}
 use Rattle.gl_tokens.specs.Cap as cap
@@ -22,6 +22,7 @@ use Rattle.gl_state.specs.Environments as environments
 use Rattle.gl_state.specs.Fog as fog
 use Rattle.gl_state.specs.FragmentTests as tests
 use Rattle.gl_state.specs.Lighting as lighting
+use Rattle.gl_state.specs.Lights as lights
 use Rattle.gl_state.specs.Pixels as pixels
 use Rattle.gl_state.specs.Raster as raster
 use Rattle.gl_state.specs.Switches as switches
@@ -33,6 +34,7 @@ use Rattle.gl_state.specs.declared.environments.Environments.{Environments}
 use Rattle.gl_state.specs.declared.fog.Fog.{Fog}
 use Rattle.gl_state.specs.declared.fragment_tests.FragmentTests.{FragmentTests}
 use Rattle.gl_state.specs.declared.lighting.Lighting.{Lighting}
+use Rattle.gl_state.specs.declared.lights.Lights.{Lights}
 use Rattle.gl_state.specs.declared.pixels.PixelStorage.{PixelStorage}
 use Rattle.gl_state.specs.declared.raster.Raster.{Raster}
 use Rattle.gl_state.specs.declared.state.State.{State}
@@ -45,6 +47,7 @@ opening_state size = record {
   switches = switches.opening_switches;
   fog = fog.opening_fog;
   lighting = lighting.opening_lighting;
+  lights = lights.opening_lights;
   tests = tests.opening_tests size;
   blending = blending.opening_blending;
   clears = clears.opening_clears;
@@ -65,6 +68,9 @@ on_fog s = within (λ part. record s { fog = part })
 
 abbrev pub on_lighting : State → Lighting × Option GlError → State × Option GlError
 on_lighting s = within (λ part. record s { lighting = part })
+
+abbrev pub on_lights : State → Lights × Option GlError → State × Option GlError
+on_lights s = within (λ part. record s { lights = part })
 
 abbrev pub on_tests : State → FragmentTests × Option GlError → State × Option GlError
 on_tests s = within (λ part. record s { tests = part })
@@ -142,6 +148,7 @@ ran s (Hint target mode) = on_raster s (raster.hint s.raster target mode)
 ran s (Enable capability) = switch s capability true
 ran s (Disable capability) = switch s capability false
 ran s (Fogx parameter values) = on_fog s (fog.fog s.fog parameter values)
+ran s (Lightx light parameter values) = on_lights s (lights.light s.lights (top s.stacks.modelview) light parameter values)
 ran s (LightModelx parameter values) = on_lighting s (lighting.light_model s.lighting parameter values)
 ran s (Materialx face parameter values) =
     on_lighting s (lighting.material s.lighting s.switches.color_material face parameter values)

@@ -1,5 +1,5 @@
 -- What commands make of their arguments before they keep them.
-use Rattle.std.specs.Prelude.{ℕ, ℤ, pos, ◌%◌, List, [], ◌∷◌, unsigned_abs}
+use Rattle.std.specs.Prelude.{ℕ, ℤ, pos, Bool, ◌&&◌, int_le, ◌%◌, List, [], ◌∷◌, unsigned_abs}
 use Rattle.std.specs.Int.{w32, cast_unsigned}
 use Rattle.fx_arith.specs.Number.{clamp}
 use Rattle.fx_arith.specs.declared.fx.Fx.{Fx}
@@ -23,3 +23,7 @@ low_byte_signed number = low_byte (cast_unsigned w32 number)
 -- a number, or the end of 0..255 that it lies beyond
 abbrev pub in_byte : ℤ → ℕ
 in_byte number = unsigned_abs (clamp (pos 0) (pos 255) number)
+
+-- an exponent of lighting: 0 to 128
+abbrev pub is_exponent : Fx → Bool
+is_exponent exponent = int_le (pos 0) exponent.0 && int_le exponent.0 (pos 8388608)

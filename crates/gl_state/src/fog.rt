@@ -1,16 +1,17 @@
 ghost use Rattle.std.specs.Prelude.{◌≡◌, OnSome};
-ghost use Rattle.gl_state.specs.Fog.{opening_fog, with_parameter as with_parameter_of, fog as fog_of};
+ghost use Rattle.gl_state.specs.Fog.{opening_fog, fog as fog_of};
 
-use crate::values::{vector, word};
+use crate::fog_rule::RangedFog;
+use crate::values::vector;
 use fx_arith::Fx;
-use gl_records::{FogRule, Params};
-use gl_tokens::{FogMode, FogParameter, GlError};
+use gl_records::Params;
+use gl_tokens::{FogParameter, GlError};
 
 /// Fog (OpenGL ES 1.1.12, 3.8).
 #[derive(Clone, Copy, Debug, PartialEq, Eq)]
 pub struct Fog {
     /// How it grows with the distance; the density is at least 0.
-    pub rule: FogRule,
+    pub rule: RangedFog,
     /// R G B A, as it was given.
     pub color: [Fx; 4],
 }
@@ -21,12 +22,7 @@ impl Fog {
         ensures { result ≡ opening_fog }
     {
         Fog {
-            rule: FogRule {
-                mode: FogMode::Exp,
-                density: Fx::ONE,
-                start: Fx::ZERO,
-                end: Fx::ONE,
-            },
+            rule: RangedFog::new(),
             color: [Fx::ZERO; 4],
         }
     }
@@ -39,39 +35,16 @@ impl Fog {
         let Some(parameter) = FogParameter::from_code(code) else {
             return Some(GlError::InvalidEnum);
         };
-        match self.with(parameter, values) {
+        if let FogParameter::Color = parameter {
+            self.color = vector(values);
+            return None;
+        }
+        match self.rule.with(parameter, values) {
             Ok(changed) => {
-                *self = changed;
+                self.rule = changed;
                 None
             }
             Err(error) => Some(error),
         }
-    }
-
-    fn with(self, parameter: FogParameter, values: &Params) -> Result<Fog, GlError>
-        ensures { result ≡ with_parameter_of self parameter values.now }
-    {
-        let mut rule = self.rule;
-        match parameter {
-            FogParameter::Mode => match FogMode::from_code(word(values)) {
-                Some(mode) => rule.mode = mode,
-                None => return Err(GlError::InvalidEnum),
-            },
-            FogParameter::Density => {
-                if values.0.0 < 0 {
-                    return Err(GlError::InvalidValue);
-                }
-                rule.density = values.0;
-            }
-            FogParameter::Start => rule.start = values.0,
-            FogParameter::End => rule.end = values.0,
-            FogParameter::Color => {
-                return Ok(Fog {
-                    color: vector(values),
-                    ..self
-                });
-            }
-        }
-        Ok(Fog { rule, ..self })
     }
 }

@@ -1,19 +1,17 @@
 ghost use Rattle.std.specs.Prelude.{◌≡◌, OnSome};
-ghost use Rattle.gl_state.specs.Lighting.{grey as grey_of, opening_material, opening_lighting, with_model as with_model_of, light_model as light_model_of, following, with_material as with_material_of, material as material_of};
+ghost use Rattle.gl_state.specs.Lighting.{grey as grey_of, opening_lighting, with_model as with_model_of, light_model as light_model_of, following, material as material_of};
 
+use crate::material::RangedMaterial;
 use crate::values::{vector, word};
 use fx_arith::Fx;
-use gl_records::{Material, Params};
+use gl_records::Params;
 use gl_tokens::{Face, GlError, LightModelParameter, MaterialParameter};
-
-/// The greatest shininess.
-const GREATEST_SHININESS: Fx = Fx(8388608);
 
 /// The material, and the lighting model (OpenGL ES 1.1.12, 2.12.2).
 #[derive(Clone, Copy, Debug, PartialEq, Eq)]
 pub struct Lighting {
     /// Of both sides; its shininess is 0 to 128.
-    pub material: Material,
+    pub material: RangedMaterial,
     /// The ambient colour of the scene, R G B A, as it was given.
     pub scene: [Fx; 4],
     /// Whether triangles that face back take their corners' back colours.
@@ -25,7 +23,7 @@ impl Lighting {
         ensures { result ≡ opening_lighting }
     {
         Lighting {
-            material: new_material(),
+            material: RangedMaterial::new(),
             scene: grey(Fx(13107)),
             two_side: false,
         }
@@ -58,8 +56,7 @@ impl Lighting {
     pub(crate) fn follow(&mut self, color: [Fx; 4])
         ensures { self.new ≡ following self.old color }
     {
-        self.material.ambient = color;
-        self.material.diffuse = color;
+        self.material = self.material.following(color);
     }
 
     /// Materialx, while the material follows the current colour or doesn't: InvalidEnum where the side isn't
@@ -80,7 +77,7 @@ impl Lighting {
         let Some(parameter) = MaterialParameter::from_code(code) else {
             return Some(GlError::InvalidEnum);
         };
-        match with_material(self.material, follows, parameter, values) {
+        match self.material.with(follows, parameter, values) {
             Ok(changed) => {
                 self.material = changed;
                 None
@@ -91,60 +88,8 @@ impl Lighting {
 }
 
 /// A grey of this brightness, opaque.
-fn grey(brightness: Fx) -> [Fx; 4]
+pub(crate) fn grey(brightness: Fx) -> [Fx; 4]
     ensures { result ≡ grey_of brightness }
 {
     [brightness, brightness, brightness, Fx::ONE]
-}
-
-fn new_material() -> Material
-    ensures { result ≡ opening_material }
-{
-    Material {
-        ambient: grey(Fx(13107)),
-        diffuse: grey(Fx(52428)),
-        specular: grey(Fx::ZERO),
-        emission: grey(Fx::ZERO),
-        shininess: Fx::ZERO,
-    }
-}
-
-/// The material with another parameter; while it follows the current colour, its ambient and its diffuse colour stay.
-fn with_material(
-    material: Material,
-    follows: bool,
-    parameter: MaterialParameter,
-    values: &Params,
-) -> Result<Material, GlError>
-    ensures { result ≡ with_material_of material follows parameter values.now }
-{
-    let color = vector(values);
-    let mut changed = material;
-    match parameter {
-        MaterialParameter::Ambient => {
-            if !follows {
-                changed.ambient = color;
-            }
-        }
-        MaterialParameter::Diffuse => {
-            if !follows {
-                changed.diffuse = color;
-            }
-        }
-        MaterialParameter::AmbientAndDiffuse => {
-            if !follows {
-                changed.ambient = color;
-                changed.diffuse = color;
-            }
-        }
-        MaterialParameter::Specular => changed.specular = color,
-        MaterialParameter::Emission => changed.emission = color,
-        MaterialParameter::Shininess => {
-            if values.0.0 < 0 || GREATEST_SHININESS.0 < values.0.0 {
-                return Err(GlError::InvalidValue);
-            }
-            changed.shininess = values.0;
-        }
-    }
-    Ok(changed)
 }

@@ -3,11 +3,12 @@ ghost use Rattle.gl_records.specs.SetupRules.{AreRulesInRange};
 ghost use Rattle.gl_records.specs.Size.{IsSize};
 ghost use Rattle.gl_records.specs.Valid.{IsValidClear};
 ghost use Rattle.gl_state.specs.Current.{attribs};
+ghost use Rattle.gl_state.specs.Lights.{light as light_of};
 ghost use Rattle.gl_state.specs.Raster.{clip_plane as clip_plane_of, is_flat};
 ghost use Rattle.gl_state.specs.Values.{vector as vector_of};
 ghost use Rattle.matrix_stacks.specs.Eye.{plane_to_eye as plane_in_eye};
 ghost use Rattle.matrix_stacks.specs.Stack.{top};
-ghost use Rattle.gl_state.specs.State.{opening_state, active_texture as active_texture_of, on_raster, ran, followed, switch as switch_of, setup_rules as setup_rules_of, unit_number, aligns as aligns_of};
+ghost use Rattle.gl_state.specs.State.{opening_state, active_texture as active_texture_of, on_lights, on_raster, ran, followed, switch as switch_of, setup_rules as setup_rules_of, unit_number, aligns as aligns_of};
 
 use crate::blending::Blending;
 use crate::clears::Clears;
@@ -16,6 +17,7 @@ use crate::environments::Environments;
 use crate::fog::Fog;
 use crate::fragment_tests::FragmentTests;
 use crate::lighting::Lighting;
+use crate::lights::Lights;
 use crate::pixels::PixelStorage;
 use crate::raster::{Raster, culled_faces, in_pixels};
 use crate::switches::Switches;
@@ -39,6 +41,7 @@ pub struct State {
     pub switches: Switches,
     pub fog: Fog,
     pub lighting: Lighting,
+    pub lights: Lights,
     pub tests: FragmentTests,
     pub blending: Blending,
     pub clears: Clears,
@@ -59,6 +62,7 @@ impl State {
             switches: Switches::new(),
             fog: Fog::new(),
             lighting: Lighting::new(),
+            lights: Lights::new(),
             tests: FragmentTests::new(size),
             blending: Blending::new(),
             clears: Clears::new(),
@@ -181,6 +185,11 @@ impl State {
             Rec::Enable { capability } => self.switch(*capability, true),
             Rec::Disable { capability } => self.switch(*capability, false),
             Rec::Fogx { parameter, values } => self.fog.fog(*parameter, values),
+            Rec::Lightx {
+                light,
+                parameter,
+                values,
+            } => self.light(*light, *parameter, values),
             Rec::LightModelx { parameter, values } => self.lighting.light_model(*parameter, values),
             Rec::Materialx {
                 face,
@@ -268,6 +277,7 @@ impl State {
             | Rec::GetError
             | Rec::Get { .. }
             | Rec::IsEnabled { .. }
+            | Rec::IsBuffer { .. }
             | Rec::ClientBytes { .. }
             | Rec::VertexPointer { .. }
             | Rec::NormalPointer { .. }
@@ -277,6 +287,11 @@ impl State {
             | Rec::DisableClientState { .. }
             | Rec::DrawArrays { .. }
             | Rec::DrawElements { .. }
+            | Rec::GenBuffers { .. }
+            | Rec::DeleteBuffers { .. }
+            | Rec::BindBuffer { .. }
+            | Rec::BufferData { .. }
+            | Rec::BufferSubData { .. }
             | Rec::SampleCoveragex { .. }
             | Rec::Clear { .. } => None,
         }
@@ -306,6 +321,21 @@ impl State {
     {
         let eye = plane_to_eye(self.stacks.top(MatrixMode::Modelview, 0), vector(equation));
         self.raster.clip_plane(plane, eye)
+    }
+
+    /// Lightx, with the errors of [`Lights::light`]. Positions and directions are kept in eye coordinates, by the modelview
+    /// matrix of this moment.
+    fn light(&mut self, light: u32, parameter: u32, values: &Params) -> Option<GlError>
+        ensures run { (self.new, result)
+            ≡ on_lights self.old (light_of self.old.lights (top self.old.stacks.modelview) light parameter values.now) }
+        ensures unchanged { OnSome result (self.new ≡ self.old) }
+    {
+        self.lights.light(
+            self.stacks.top(MatrixMode::Modelview, 0),
+            light,
+            parameter,
+            values,
+        )
     }
 
     /// Enable or Disable: InvalidEnum where there is no such capability.

@@ -3,7 +3,7 @@
 use super::*;
 use fx_arith::Fx;
 use gl_records::{
-    Combine, Env, FogRule, FragState, Params, PixelBox, Rec, Sampler, SetupRules, Size,
+    Combine, Env, FogRule, FragState, Material, Params, PixelBox, Rec, Sampler, SetupRules, Size,
     StencilState, UnitState, VersionId,
 };
 use gl_tokens::*;
@@ -107,6 +107,14 @@ fn the_state_that_set_up_goes_by(rt: HostRuntime) {
     assert_eq!(rt; state.setup_rules().line, 1);
 }
 
+fn fog_rule(state: &State) -> FogRule {
+    state.fog.rule.get()
+}
+
+fn material(state: &State) -> Material {
+    state.lighting.material.get()
+}
+
 #[test]
 fn fog(rt: HostRuntime) {
     let mut state = State::new(SIZE);
@@ -129,16 +137,14 @@ fn fog(rt: HostRuntime) {
             (set(0x0B67, -1), ENUM),
         ],
     );
-    let want = Fog {
-        rule: FogRule {
-            mode: FogMode::Linear,
-            density: Fx(0),
-            start: Fx(-5),
-            end: Fx(i32::MAX),
-        },
-        color: color(2 * ONE),
+    let want = FogRule {
+        mode: FogMode::Linear,
+        density: Fx(0),
+        start: Fx(-5),
+        end: Fx(i32::MAX),
     };
-    assert_eq!(rt; state.fog, want);
+    assert_eq!(rt; fog_rule(&state), want);
+    assert_eq!(rt; state.fog.color, color(2 * ONE));
 }
 
 #[test]
@@ -159,8 +165,9 @@ fn materials_and_scene(rt: HostRuntime) {
         values: first(word),
     };
     run(&rt, &mut state, &[(both(0x1602, 7), NONE)]);
-    assert_eq!(rt; state.lighting.material.ambient, color(7));
-    assert_eq!(rt; state.lighting.material.diffuse, color(7));
+    let kept = material(&state);
+    assert_eq!(rt; kept.ambient, color(7));
+    assert_eq!(rt; kept.diffuse, color(7));
     run(
         &rt,
         &mut state,
@@ -178,7 +185,7 @@ fn materials_and_scene(rt: HostRuntime) {
             (front(0x1200, 1), ENUM),
         ],
     );
-    let material = state.lighting.material;
+    let material = material(&state);
     assert_eq!(rt; (material.ambient, material.diffuse), (color(8), color(9)));
     assert_eq!(rt;
         (material.specular, material.emission),
@@ -224,8 +231,9 @@ fn a_material_that_follows_the_color(rt: HostRuntime) {
         &mut state,
         &[(given(5), NONE), (Rec::Enable { capability: 0x0B57 }, NONE)],
     );
-    assert_eq!(rt; state.lighting.material.ambient, color(5));
-    assert_eq!(rt; state.lighting.material.diffuse, color(5));
+    let kept = material(&state);
+    assert_eq!(rt; kept.ambient, color(5));
+    assert_eq!(rt; kept.diffuse, color(5));
     run(
         &rt,
         &mut state,
@@ -238,9 +246,10 @@ fn a_material_that_follows_the_color(rt: HostRuntime) {
             (both(0x1601, -1), VALUE),
         ],
     );
-    assert_eq!(rt; state.lighting.material.ambient, color(6));
-    assert_eq!(rt; state.lighting.material.diffuse, color(6));
-    assert_eq!(rt; state.lighting.material.specular, color(8));
+    let kept = material(&state);
+    assert_eq!(rt; kept.ambient, color(6));
+    assert_eq!(rt; kept.diffuse, color(6));
+    assert_eq!(rt; kept.specular, color(8));
     run(
         &rt,
         &mut state,
@@ -249,9 +258,11 @@ fn a_material_that_follows_the_color(rt: HostRuntime) {
             (given(9), NONE),
         ],
     );
-    assert_eq!(rt; state.lighting.material.diffuse, color(6));
+    let kept = material(&state);
+    assert_eq!(rt; kept.diffuse, color(6));
     run(&rt, &mut state, &[(both(0x1602, 10), NONE)]);
-    assert_eq!(rt; state.lighting.material.diffuse, color(10));
+    let kept = material(&state);
+    assert_eq!(rt; kept.diffuse, color(10));
 }
 
 #[test]

@@ -1,6 +1,7 @@
 //! What commands make of their arguments before they keep them.
-ghost use Rattle.std.specs.Prelude.{◌≡◌};
-ghost use Rattle.gl_state.specs.Values.{vector as vector_of, word as word_of, low_byte as low_byte_of, low_byte_signed as low_byte_signed_of, in_byte as in_byte_of};
+ghost use Rattle.std.specs.Prelude.{◌≡◌, IsTrue};
+ghost use Rattle.gl_records.specs.VertexState.{IsExponent};
+ghost use Rattle.gl_state.specs.Values.{vector as vector_of, word as word_of, low_byte as low_byte_of, low_byte_signed as low_byte_signed_of, in_byte as in_byte_of, is_exponent as is_exponent_of};
 
 use fx_arith::Fx;
 use gl_records::Params;
@@ -44,4 +45,12 @@ pub fn in_byte(number: i32) -> u8
     } else {
         number as u8
     }
+}
+
+/// Whether this may be an exponent of lighting: 0 to 128.
+pub fn is_exponent(exponent: Fx) -> bool
+    ensures value { result ≡ is_exponent_of exponent }
+    ensures range { IsTrue result → IsExponent exponent }
+{
+    0 <= exponent.0 && exponent.0 <= 128 * 65536
 }

@@ -1,4 +1,4 @@
--- Normals and planes in eye coordinates, by the upper three rows and columns of the modelview matrix
+-- Normals, directions and planes in eye coordinates, by the upper three rows and columns of the modelview matrix
 -- (OpenGL ES 1.1.12, 2.10.3 and 2.11). All is exact on raw numbers until a component is rounded down and
 -- saturated, which is this project's own.
 use Rattle.std.specs.Prelude.{ℕ, ℤ, pos, ◌+◌, ◌%◌, ◌==◌, ◌+ℤ◌, ◌-ℤ◌, ◌*ℤ◌, List, [], ◌∷◌, ◌++◌, if◌then◌else◌}
@@ -49,10 +49,22 @@ inverse_third_row m =
 unfoldable pub over_length : List Fx → ℕ → List Fx
 over_length v length = if length == 0 then v else vector.over_length v length 0 ∷ vector.over_length v length 1 ∷ vector.over_length v length 2 ∷ []
 
--- RESCALE_NORMAL: a normal in eye coordinates over the length of the third row of the inverse; it stays where the matrix
--- has no inverse, or that length is 0 (OpenGL ES 1.1.12, 2.10.3)
+-- what RESCALE_NORMAL divides by: the length of the third row of the inverse, and 0 where there is no inverse
+unfoldable pub rescale_length : Mat4 → ℕ
+rescale_length m = if int_eq (determinant m) (pos 0) then 0 else len3 (inverse_third_row m)
+
+-- RESCALE_NORMAL: a normal in eye coordinates over that length; it stays where the matrix has no inverse, or the length is 0
+-- (OpenGL ES 1.1.12, 2.10.3)
 unfoldable pub rescaled_normal : Mat4 → List Fx → List Fx
-rescaled_normal m n = if int_eq (determinant m) (pos 0) then n else over_length n (len3 (inverse_third_row m))
+rescaled_normal m n = over_length n (rescale_length m)
+
+-- the first three entries of row i
+abbrev pub upper_row : Mat4 → ℕ → List Fx
+upper_row m i = fixed (entry m i 0) ∷ fixed (entry m i 1) ∷ fixed (entry m i 2) ∷ []
+
+-- a direction in eye coordinates: the upper three rows and columns times the direction (OpenGL ES 1.1.12, 2.12.1)
+unfoldable pub direction_to_eye : Mat4 → List Fx → List Fx
+direction_to_eye m v = fixed (dot3 (upper_row m 0) v) ∷ fixed (dot3 (upper_row m 1) v) ∷ fixed (dot3 (upper_row m 2) v) ∷ []
 
 -- the first three components of a vector
 abbrev pub first_three : List Fx → List Fx

@@ -1,4 +1,5 @@
 pub mod Eye
+pub mod NormalMatrix
 pub mod Product
 pub mod Projection
 pub mod Stack

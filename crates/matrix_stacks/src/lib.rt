@@ -12,6 +12,7 @@
 //! ```
 #![tactic(auto)]
 
+mod normal_matrix;
 mod normals;
 mod products;
 mod projections;
@@ -19,7 +20,10 @@ mod stack;
 mod stacks;
 mod transforms;
 
-pub use normals::{cofactor, determinant, normal_to_eye, plane_to_eye, rescale_normal};
+pub use normal_matrix::NormalMatrix;
+pub use normals::{
+    cofactor, determinant, direction_to_eye, normal_to_eye, plane_to_eye, rescale_normal,
+};
 pub use products::transform;
 pub use stacks::Stacks;
 

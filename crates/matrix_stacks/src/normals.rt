@@ -1,8 +1,9 @@
 ghost use Rattle.std.specs.Prelude.{◌≡◌, ◌≢◌, ◌<◌, ◌≤◌, ◌*◌, ◌^◌, ◌+ℤ◌, ◌-ℤ◌, ◌*ℤ◌, pos, unsigned_abs};
 ghost use Rattle.fx_arith.specs.Matrix.{entry as entry_of};
-ghost use Rattle.matrix_stacks.specs.Eye.{cofactor as cofactor_of, along_row as along_row_of, over_determinant as over_determinant_of, determinant as determinant_of, normal_to_eye as normal_to_eye_of, inverse_third_row as inverse_third_row_of, over_length as over_length_of, rescaled_normal, plane_to_eye as plane_to_eye_of};
+ghost use Rattle.matrix_stacks.specs.Eye.{cofactor as cofactor_of, over_determinant as over_determinant_of, determinant as determinant_of, normal_to_eye as normal_to_eye_of, inverse_third_row as inverse_third_row_of, over_length as over_length_of, rescaled_normal, plane_to_eye as plane_to_eye_of, upper_row as upper_row_of, direction_to_eye as direction_to_eye_of};
 
-use fx_arith::{Fx, Mat4, div, dot3, floor_quotient_128, len3, product, saturate_wide, sub};
+use crate::normal_matrix::NormalMatrix;
+use fx_arith::{Fx, Mat4, div, dot3, floor_quotient_128, product, saturate_wide, sub};
 
 /// The cofactor of row `i` and column `j` in the upper three rows and columns of `m`, exact, in units of
 /// 1/65536 squared.
@@ -34,39 +35,43 @@ pub fn determinant(m: &Mat4) -> i128
 
 /// The normal `n` in eye coordinates: `n` times the inverse of the upper three rows and columns of
 /// `modelview`, rounded down and saturated. Where there is no inverse it stays.
-#[tactic(auto, unfolding(crate::specs::Eye::normal_to_eye))]
 pub fn normal_to_eye(modelview: &Mat4, n: [Fx; 3]) -> [Fx; 3]
     ensures { result ≡ normal_to_eye_of modelview.now n }
 {
-    let det = determinant(modelview);
-    if det == 0 {
-        n
-    } else {
-        [
-            over_determinant(along_row(modelview, 0, n), det),
-            over_determinant(along_row(modelview, 1, n), det),
-            over_determinant(along_row(modelview, 2, n), det),
-        ]
-    }
+    NormalMatrix::new(modelview).to_eye(n)
 }
 
 /// RESCALE_NORMAL: the normal `n`, in eye coordinates, over the length of the third row of the inverse of the upper three
 /// rows and columns of `modelview`, each component rounded down and saturated. It stays where there is no inverse, or where
 /// that length is 0.
-#[tactic(auto, unfolding(crate::specs::Eye::rescaled_normal))]
 pub fn rescale_normal(modelview: &Mat4, n: [Fx; 3]) -> [Fx; 3]
     ensures { result ≡ rescaled_normal modelview.now n }
 {
-    let det = determinant(modelview);
-    if det == 0 {
-        n
-    } else {
-        over_length(n, len3(inverse_third_row(modelview, det)))
-    }
+    NormalMatrix::new(modelview).rescaled(n)
+}
+
+/// The direction `v` in eye coordinates: the upper three rows and columns of `modelview` times `v`, each component rounded
+/// down once and saturated.
+#[tactic(auto, unfolding(crate::specs::Eye::direction_to_eye))]
+pub fn direction_to_eye(modelview: &Mat4, v: [Fx; 3]) -> [Fx; 3]
+    ensures { result ≡ direction_to_eye_of modelview.now v }
+{
+    [
+        dot3(upper_row(modelview, 0), v),
+        dot3(upper_row(modelview, 1), v),
+        dot3(upper_row(modelview, 2), v),
+    ]
+}
+
+fn upper_row(m: &Mat4, i: usize) -> [Fx; 3]
+    requires { i < 3 }
+    ensures { result ≡ upper_row_of m.now i }
+{
+    [entry(m, i, 0), entry(m, i, 1), entry(m, i, 2)]
 }
 
 #[tactic(auto, unfolding(crate::specs::Eye::inverse_third_row))]
-fn inverse_third_row(m: &Mat4, determinant: i128) -> [Fx; 3]
+pub(crate) fn inverse_third_row(m: &Mat4, determinant: i128) -> [Fx; 3]
     requires value { determinant ≡ determinant_of m.now }
     requires inverse { determinant ≢ pos 0 }
     ensures { result ≡ inverse_third_row_of m.now }
@@ -79,7 +84,7 @@ fn inverse_third_row(m: &Mat4, determinant: i128) -> [Fx; 3]
 }
 
 #[tactic(auto, unfolding(crate::specs::Eye::over_length))]
-fn over_length(v: [Fx; 3], length: u64) -> [Fx; 3]
+pub(crate) fn over_length(v: [Fx; 3], length: u64) -> [Fx; 3]
     requires { length < 2 ^ 32 }
     ensures { result ≡ over_length_of v length }
 {
@@ -106,20 +111,6 @@ pub fn plane_to_eye(modelview: &Mat4, plane: [Fx; 4]) -> [Fx; 4]
     [n[0], n[1], n[2], sub(plane[3], dot3(n, translation))]
 }
 
-/// Row `i` of the cofactors times `v`.
-#[tactic(auto, unfolding(crate::specs::Eye::along_row))]
-fn along_row(m: &Mat4, i: usize, v: [Fx; 3]) -> i128
-    requires { i < 3 }
-    ensures value { result ≡ along_row_of m.now i v }
-    ensures bound { unsigned_abs result ≤ 3 * 2 ^ 94 }
-{
-    sum(
-        times(cofactor(m, i, 0), v[0]),
-        times(cofactor(m, i, 1), v[1]),
-        times(cofactor(m, i, 2), v[2]),
-    )
-}
-
 fn difference(a: i64, b: i64) -> i128
     requires first { unsigned_abs a ≤ 2 ^ 62 }
     requires second { unsigned_abs b ≤ 2 ^ 62 }
@@ -129,7 +120,7 @@ fn difference(a: i64, b: i64) -> i128
     i128::from(a) - i128::from(b)
 }
 
-fn sum(a: i128, b: i128, c: i128) -> i128
+pub(crate) fn sum(a: i128, b: i128, c: i128) -> i128
     requires first { unsigned_abs a ≤ 2 ^ 94 }
     requires second { unsigned_abs b ≤ 2 ^ 94 }
     requires third { unsigned_abs c ≤ 2 ^ 94 }
@@ -139,7 +130,7 @@ fn sum(a: i128, b: i128, c: i128) -> i128
     a + b + c
 }
 
-fn times(cofactor: i128, a: Fx) -> i128
+pub(crate) fn times(cofactor: i128, a: Fx) -> i128
     requires { unsigned_abs cofactor ≤ 2 ^ 63 }
     ensures value { result ≡ cofactor *ℤ a.0 }
     ensures bound { unsigned_abs result ≤ 2 ^ 94 }
@@ -148,7 +139,7 @@ fn times(cofactor: i128, a: Fx) -> i128
 }
 
 #[tactic(auto, unfolding(crate::specs::Eye::over_determinant))]
-fn over_determinant(sum: i128, determinant: i128) -> Fx
+pub(crate) fn over_determinant(sum: i128, determinant: i128) -> Fx
     requires divisor { determinant ≢ pos 0 }
     requires bound { unsigned_abs sum ≤ 3 * 2 ^ 94 }
     ensures { result.0 ≡ over_determinant_of sum determinant }

@@ -195,3 +195,34 @@ fn normals_and_planes(rt: HostRuntime) {
         [Fx(F), Fx(0), Fx(F), Fx(6 * F)]
     );
 }
+
+// What is prepared of a matrix keeps it: scaled by 2, 4 and 1 the normal 1 1 1 becomes 1/2 1/4 1, and the third row of the
+// inverse, 0 0 1, has length 1; scaled by 2 throughout that is 0 0 1/2, and a normal doubles. A direction isn't moved.
+#[test]
+fn prepared_normals_and_directions(rt: HostRuntime) {
+    let ones = [Fx(F); 3];
+    let scaled = matrix(
+        [2 * F, 0, 0, 0],
+        [0, 4 * F, 0, 0],
+        [0, 0, F, 0],
+        [9 * F, 0, -5 * F, F],
+    );
+    let doubled = matrix(
+        [2 * F, 0, 0, 0],
+        [0, 2 * F, 0, 0],
+        [0, 0, 2 * F, 0],
+        [0, 0, 0, F],
+    );
+    let sheared = matrix([F, 0, 0, 0], [F, F, 0, 0], [0, 0, F, 0], [0, 0, 0, F]);
+    let normals = NormalMatrix::new(&scaled);
+    assert_eq!(rt; *normals.modelview(), scaled);
+    assert_eq!(rt; normals.to_eye(ones), [Fx(F / 2), Fx(F / 4), Fx(F)]);
+    assert_eq!(rt; normals.rescaled(ones), ones);
+    assert_eq!(rt; NormalMatrix::new(&doubled).rescaled(ones), [Fx(2 * F); 3]);
+    assert_eq!(rt; rescale_normal(&doubled, ones), [Fx(2 * F); 3]);
+    assert_eq!(rt;
+        direction_to_eye(&scaled, ones),
+        [Fx(2 * F), Fx(4 * F), Fx(F)]
+    );
+    assert_eq!(rt; direction_to_eye(&sheared, ones), [Fx(2 * F), Fx(F), Fx(F)]);
+}

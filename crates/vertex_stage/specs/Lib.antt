@@ -1,2 +1,3 @@
+pub mod Fog
 pub mod Normal
 pub mod Vertex

@@ -1,13 +1,16 @@
--- A vertex in clip coordinates (OpenGL ES 1.1.12, 2.10 to 2.12), of what the arrays and the current values give it. No light
--- and no fog has an effect yet.
-use Rattle.std.specs.Prelude.{pos, List, [], ◌∷◌, map, Option, Some, None, slice_index_or}
-use Rattle.fx_arith.specs.Number.{dot4, fixed, in_unit, one}
+-- A vertex in clip coordinates (OpenGL ES 1.1.12, 2.10 to 2.12 and 3.8), of what the arrays and the current values give it.
+use Rattle.std.specs.Prelude.{pos, List, [], ◌∷◌, map, Option, Some, None, slice_index_or, if◌then◌else◌}
+use Rattle.fx_arith.specs.Number.{dot4, fixed, in_unit}
 use Rattle.fx_arith.specs.declared.fx.Fx.{Fx}
 use Rattle.fx_arith.specs.declared.mat4.Mat4.{Mat4}
 use Rattle.gl_records.specs.declared.attribs.Attribs.{Attribs}
 use Rattle.gl_records.specs.declared.clip_vertex.ClipVertex.{ClipVertex}
 use Rattle.gl_records.specs.declared.vertex_state.VertexState.{VertexState}
 use Rattle.matrix_stacks.specs.Product.{transformed}
+use Rattle.vertex_light.specs.Components.{first_three, reversed}
+use Rattle.vertex_light.specs.Lit.{lit}
+use Rattle.vertex_stage.specs.Fog.{fog_factor}
+use Rattle.vertex_stage.specs.Normal.{eye_normal}
 
 -- the position in eye coordinates, and that in clip coordinates
 abbrev pub eye_position : VertexState → List Fx → List Fx
@@ -33,22 +36,33 @@ texture_coordinates texture coordinates = stq (transformed texture coordinates)
 abbrev pub shown : List Fx → List Fx
 shown color = map in_unit color
 
+-- the colour of a side whose normal in eye coordinates is this one; without lighting it is the vertex's
+unfoldable pub side : VertexState → List Fx → List Fx → List Fx → List Fx
+side state color normal eye = if state.lighting then lit state color normal (first_three eye) else shown color
+
+-- the colour seen from the front, and that seen from behind, whose normal is the other way round
+abbrev pub front_of : VertexState → Attribs → List Fx → List Fx
+front_of state vertex eye = side state vertex.color (eye_normal state vertex.normal) eye
+
+abbrev pub back_of : VertexState → Attribs → List Fx → List Fx
+back_of state vertex eye = side state vertex.color (reversed (eye_normal state vertex.normal)) eye
+
 -- what is made of a vertex whose position in eye coordinates is known
 abbrev pub vertex_from : VertexState → Attribs → List Fx → ClipVertex
 vertex_from state vertex eye = record {
   clip = clip_position state eye;
   plane = plane_distance state.plane eye;
-  front = shown vertex.color;
-  back = shown vertex.color;
+  front = front_of state vertex eye;
+  back = back_of state vertex eye;
   tex =
       texture_coordinates (slice_index_or state.texture 0 no_matrix) (slice_index_or vertex.tex 0 [])
       ∷ texture_coordinates (slice_index_or state.texture 1 no_matrix) (slice_index_or vertex.tex 1 []) ∷ [];
-  fog = fixed one;
+  fog = fog_factor state.fog eye;
 }
   where
     no_matrix : Mat4
     no_matrix = record { 0 = [] }
 
--- a vertex in clip coordinates: both sides show its colour
+-- a vertex in clip coordinates
 unfoldable pub vertex_of : VertexState → Attribs → ClipVertex
 vertex_of state vertex = vertex_from state vertex (eye_position state vertex.pos)

@@ -1,6 +1,9 @@
+ghost use Rattle.gl_records.specs.VertexState.{IsFogInRange, IsVertexStateInRange};
+
 use super::*;
 use fx_arith::{Fx, Mat4};
-use gl_records::{Attribs, Material, VertexState};
+use gl_records::{Attribs, ClipVertex, FogRule, Light, Material, VertexState};
+use gl_tokens::FogMode;
 use std::process::Abort;
 
 /// Matrices in these tests are columns of halves.
@@ -38,7 +41,9 @@ fn four(a: i32, b: i32, c: i32, d: i32) -> [Fx; 4] {
 }
 
 /// Nothing but matrices.
-fn state(modelview: Mat4, projection: Mat4) -> VertexState {
+fn state(modelview: Mat4, projection: Mat4) -> VertexState
+    ensures { IsVertexStateInRange result }
+{
     let grey = four(1, 1, 1, 2);
     VertexState {
         modelview,
@@ -106,7 +111,7 @@ fn has_normal(
     let [x, y, z] = normal;
     let [a, b, c] = want;
     assert_eq!(rt;
-        eye_normal(&state, [half(x), half(y), half(z)]),
+        Stage::new(&state).eye_normal([half(x), half(y), half(z)]),
         [Fx(a), Fx(b), Fx(c)]
     );
 }
@@ -133,4 +138,97 @@ fn normals(rt: HostRuntime) {
     has_normal(&rt, &shear, true, false, [2, 0, 0], [46341, 0, 0]);
     has_normal(&rt, &flat, true, false, [2, 4, 6], [one, 2 * one, 3 * one]);
     has_normal(&rt, &flat, true, true, [6, 8, 0], [39321, 52428, 0]);
+}
+
+/// A vertex at the eye, at this place along z, grey, with this normal along z.
+fn vertex(z: i32, normal: i32) -> Attribs {
+    Attribs {
+        pos: [Fx::ZERO, Fx::ZERO, Fx(z), Fx::ONE],
+        normal: [Fx::ZERO, Fx::ZERO, Fx(normal)],
+        color: four(1, 1, 1, 2),
+        tex: [four(0, 0, 0, 2), four(0, 0, 0, 2)],
+    }
+}
+
+// The light shines from 0 0 1, and the normal faces it at the front: 1/2 of its diffuse 1/2 there, nothing at the back. The
+// material's ambient part is 1/2 of the light's 1/4, the scene's is 1/2 of 1/2, what it emits is 0: 3/8, and 5/8 at the front.
+#[test]
+fn both_sides(rt: HostRuntime) {
+    let black = four(0, 0, 0, 0);
+    let grey = four(1, 1, 1, 1);
+    let sun = Light {
+        ambient: [Fx(16384); 4],
+        diffuse: grey,
+        specular: black,
+        position: four(0, 0, 2, 0),
+        direction: [Fx::ZERO; 3],
+        exponent: Fx::ZERO,
+        cutoff: Fx(11796480),
+        attenuation: [Fx::ONE, Fx::ZERO, Fx::ZERO],
+    };
+    let identity = Mat4::identity();
+    let lit = VertexState {
+        lighting: true,
+        material: Material {
+            ambient: grey,
+            diffuse: grey,
+            specular: black,
+            emission: black,
+            shininess: Fx::ZERO,
+        },
+        lights: [None, Some(sun), None, None, None, None, None, None],
+        ..state(identity, identity)
+    };
+    let made = run(&lit, &vertex(0, 65536));
+    assert_eq!(rt; made.front, [Fx(40960), Fx(40960), Fx(40960), Fx(32768)]);
+    assert_eq!(rt; made.back, [Fx(24576), Fx(24576), Fx(24576), Fx(32768)]);
+    let turned = run(&lit, &vertex(0, -65536));
+    assert_eq!(rt; turned.front, made.back);
+    assert_eq!(rt; turned.back, made.front);
+}
+
+/// The vertex at this place along z, under fog.
+fn fogged(mode: FogMode, density: i32, start: i32, end: i32, z: i32) -> ClipVertex {
+    let identity = Mat4::identity();
+    let rule = FogRule {
+        mode,
+        density: Fx(density.max(0)),
+        start: Fx(start),
+        end: Fx(end),
+    };
+    let state = VertexState {
+        fog: Some(rule),
+        ..state(identity, identity)
+    };
+    run(&state, &vertex(z, 65536))
+}
+
+// LINEAR from 1 to 3: 1 up to there, 1/2 at 2 on either side of the eye, 0 from 3 on; where the ends are the same it is 1. The
+// least z is as far as the greatest number. EXP: 24167 is e to the power of -1. EXP2: of density 2 at 1/2 it is the same, of
+// density 1/2 at 2 too.
+#[test]
+fn fog_factors(rt: HostRuntime) {
+    let one = 65536;
+    for (mode, density, start, end, z, want) in [
+        (FogMode::Linear, 0, one, 3 * one, 0, one),
+        (FogMode::Linear, 0, one, 3 * one, -one, one),
+        (FogMode::Linear, 0, one, 3 * one, -2 * one, one / 2),
+        (FogMode::Linear, 0, one, 3 * one, 2 * one, one / 2),
+        (FogMode::Linear, 0, one, 3 * one, -3 * one, 0),
+        (FogMode::Linear, 0, one, 3 * one, -9 * one, 0),
+        (FogMode::Linear, 0, 3 * one, one, -9 * one, one),
+        (FogMode::Linear, 0, one, one, -9 * one, one),
+        (FogMode::Linear, 0, 0, i32::MAX, i32::MIN, 0),
+        (FogMode::Exp, one, 0, 0, 0, one),
+        (FogMode::Exp, one, 0, 0, -one, 24167),
+        (FogMode::Exp, one, 0, 0, one, 24167),
+        (FogMode::Exp, one, 0, 0, i32::MIN, 0),
+        (FogMode::Exp, 0, 0, 0, i32::MIN, one),
+        (FogMode::Exp2, one, 0, 0, 0, one),
+        (FogMode::Exp2, 2 * one, 0, 0, -one / 2, 24167),
+        (FogMode::Exp2, one / 2, 0, 0, 2 * one, 24167),
+        (FogMode::Exp2, one, 0, 0, i32::MAX, 0),
+    ] {
+        assert_eq!(rt; fogged(mode, density, start, end, z).fog, Fx(want));
+    }
 }
