@@ -1,12 +1,11 @@
 -- A command of the state alone.
-use Rattle.std.proofs.Common.{◌≡◌, ◌∙◌, ℕ, ℤ, Option, Some, None, OnSome, refl, sym, ap}
-use Rattle.gl_records.specs.declared.bytes.Bytes.{Bytes}
+use Rattle.std.proofs.Common.{◌≡◌, ◌∙◌, ℕ, ℤ, true, false, Option, Some, None, OnSome, refl, sym, ap}
 use Rattle.gl_records.specs.declared.rec.Rec.{Rec}
-use Rattle.gl_records.specs.declared.rec.Rec.TheVariants.{GetError, Get, IsEnabled, ClientBytes, VertexPointer, NormalPointer, ColorPointer, TexCoordPointer, EnableClientState, DisableClientState, ClientActiveTexture, DrawArrays, DrawElements, Clear}
+use Rattle.gl_records.specs.declared.rec.Rec.TheVariants.{GetError, Get, IsEnabled, IsBuffer, ClientBytes, VertexPointer, NormalPointer, ColorPointer, TexCoordPointer, EnableClientState, DisableClientState, ClientActiveTexture, DrawArrays, DrawElements, GenBuffers, DeleteBuffers, BindBuffer, BufferData, BufferSubData, Clear}
 use Rattle.gl_state.specs.declared.state.State.{State}
 use Rattle.gl_state.specs.State.{ran}
 use Rattle.gl_tokens.specs.declared.gl_error.GlError.{GlError}
-use Rattle.draw_front.specs.Call.{commanded, on_state}
+use Rattle.draw_front.specs.Call.{commanded, on_state, changes_memory}
 use Rattle.draw_front.specs.Context.{Context}
 
 -- the record is none of the commands that touch something else
@@ -14,7 +13,7 @@ pub record IsOfState (rec : Rec) : Type 0 where
   pub error : rec ≡ GetError → ⊥
   pub get : (x : ℕ) → rec ≡ Get x → ⊥
   pub enabled : (x : ℕ) → rec ≡ IsEnabled x → ⊥
-  pub bytes : (x : ℕ) (y : Bytes) → rec ≡ ClientBytes x y → ⊥
+  pub buffer : (x : ℕ) → rec ≡ IsBuffer x → ⊥
   pub pointer : (a : ℤ) (b : ℕ) (c : ℤ) (d e : ℕ) → rec ≡ VertexPointer a b c d e → ⊥
   pub normals : (a : ℕ) (b : ℤ) (c d : ℕ) → rec ≡ NormalPointer a b c d → ⊥
   pub colors : (a : ℤ) (b : ℕ) (c : ℤ) (d e : ℕ) → rec ≡ ColorPointer a b c d e → ⊥
@@ -24,13 +23,18 @@ pub record IsOfState (rec : Rec) : Type 0 where
   pub unit : (x : ℕ) → rec ≡ ClientActiveTexture x → ⊥
   pub draw : (x : ℕ) (y z : ℤ) → rec ≡ DrawArrays x y z → ⊥
   pub elements : (a : ℕ) (b : ℤ) (c d e : ℕ) → rec ≡ DrawElements a b c d e → ⊥
+  pub memory : changes_memory rec ≡ false
   pub clear : (x : ℕ) → rec ≡ Clear x → ⊥
+
+memory_changed : true ≡ false → ⊥
+memory_changed is = absurd cc
 
 pub stated : (context : Context) (rec : Rec) → IsOfState rec → commanded context rec ≡ on_state context (ran context.state rec)
 stated context GetError of = absurd (of.error refl)
 stated context (Get x) of = absurd (of.get x refl)
 stated context (IsEnabled x) of = absurd (of.enabled x refl)
-stated context (ClientBytes x y) of = absurd (of.bytes x y refl)
+stated context (IsBuffer x) of = absurd (of.buffer x refl)
+stated context (ClientBytes x y) of = absurd (memory_changed of.memory)
 stated context (VertexPointer a b c d e) of = absurd (of.pointer a b c d e refl)
 stated context (NormalPointer a b c d) of = absurd (of.normals a b c d refl)
 stated context (ColorPointer a b c d e) of = absurd (of.colors a b c d e refl)
@@ -40,6 +44,11 @@ stated context (DisableClientState x) of = absurd (of.disable x refl)
 stated context (ClientActiveTexture x) of = absurd (of.unit x refl)
 stated context (DrawArrays x y z) of = absurd (of.draw x y z refl)
 stated context (DrawElements a b c d e) of = absurd (of.elements a b c d e refl)
+stated context (GenBuffers x) of = absurd (memory_changed of.memory)
+stated context (DeleteBuffers x) of = absurd (memory_changed of.memory)
+stated context (BindBuffer x y) of = absurd (memory_changed of.memory)
+stated context (BufferData a b c d) of = absurd (memory_changed of.memory)
+stated context (BufferSubData a b c d) of = absurd (memory_changed of.memory)
 stated context (Clear x) of = absurd (of.clear x refl)
 stated context _ of = refl
 

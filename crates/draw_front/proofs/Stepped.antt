@@ -1,5 +1,5 @@
 -- A command that makes no error: what the front keeps of it is what it asks for.
-use Rattle.std.proofs.Common.{◌≡◌, ◌∙◌, ◌+◌, ◌-◌, ◌++◌, ℕ, Bool, true, false, List, [], length, map, Option, Some, None, refl, sym, ap}
+use Rattle.std.proofs.Common.{◌≡◌, ◌∙◌, ◌+◌, ◌++◌, ℕ, Bool, true, false, List, [], length, map, Option, Some, None, refl, sym, ap}
 use Rattle.std.specs.Prelude.{option_to_list, if◌then◌else◌, unsigned_abs}
 use Rattle.draw_primitives.specs.Draw.{all_of, primitives_of}
 use Rattle.gl_records.specs.declared.clear.ClearItem.{ClearItem}
@@ -27,7 +27,7 @@ use Rattle.draw_front.specs.Pending.{items_left, pending_clear, pending_of, pend
 
 -- a draw without error that is kept, whether there is a vertex array or not
 drawn-left : (size : Size) (context : Context) (rec : Rec) (mode : Mode) (n : ℕ) (on : Bool)
-    → items_left size context (if on then pending.Draw (fragments_of context.state) (all_of (draw_state context.state) rec mode n) else pending.Nothing)
+    → items_left size context (if on then pending.Draw (fragments_of context.state) (all_of (draw_state context.state) rec context.buffers.bindings.element_array mode n) else pending.Nothing)
     ≡ (if on then map (λ (prim : Primitive). captured.Draw prim (fragments_of context.state)) (primitives_of (draw_state context.state) (source context rec) size mode n) else [])
 drawn-left size context rec mode n true = refl
 drawn-left size context rec mode n false = refl
@@ -47,11 +47,11 @@ pub left-of : (size : Size) (context later : Context) (rec : Rec) → (later, No
 left-of size context later (DrawArrays mode first count) is =
     let rec = DrawArrays mode first count in
     ap (λ (c : Context). items_left size c (pending_of size context rec)) (ap (λ (answer : Context × Option GlError). answer.0) is)
-    ∙ draw-left size context rec (draw_error rec) (mode_codes.from_code_of mode) (unsigned_abs count) (sym (ap (λ (answer : Context × Option GlError). answer.1) is))
+    ∙ draw-left size context rec (draw_error context.buffers.bindings.element_array rec) (mode_codes.from_code_of mode) (unsigned_abs count) (sym (ap (λ (answer : Context × Option GlError). answer.1) is))
 left-of size context later (DrawElements mode count kind region offset) is =
     let rec = DrawElements mode count kind region offset in
     ap (λ (c : Context). items_left size c (pending_of size context rec)) (ap (λ (answer : Context × Option GlError). answer.0) is)
-    ∙ draw-left size context rec (draw_error rec) (mode_codes.from_code_of mode) (unsigned_abs count) (sym (ap (λ (answer : Context × Option GlError). answer.1) is))
+    ∙ draw-left size context rec (draw_error context.buffers.bindings.element_array rec) (mode_codes.from_code_of mode) (unsigned_abs count) (sym (ap (λ (answer : Context × Option GlError). answer.1) is))
 left-of size context later (Clear mask) is = clear-left size later (clear_item context.state mask size)
 left-of size context later _ is = refl
 

@@ -1,11 +1,14 @@
 -- One command: the context after it, its error, what it draws, the chunk and the lines that it makes.
-use Rattle.std.specs.Prelude.{ℕ, ℤ, List, [], ◌∷◌, Option, Some, None, Result, Ok, Err, map, option_to_list}
+use Rattle.std.specs.Prelude.{ℕ, ℤ, Bool, true, false, List, [], ◌∷◌, Option, Some, None, Result, Ok, Err, map, option_to_list}
+use Rattle.buffer_objects.specs.Buffers.{BufferObjects, binding, is_buffer}
+use Rattle.buffer_objects.specs.Commands.{given_names, behind_names, bind, data_of, sub_data, without_names}
 use Rattle.gl_records.specs.declared.rec.Rec.{Rec}
-use Rattle.gl_records.specs.declared.rec.Rec.TheVariants.{Swap, GetError, Get, IsEnabled, ClientBytes, VertexPointer, NormalPointer, ColorPointer, TexCoordPointer, EnableClientState, DisableClientState, ClientActiveTexture, DrawArrays, DrawElements, Clear}
+use Rattle.gl_records.specs.declared.rec.Rec.TheVariants.{Swap, GetError, Get, IsEnabled, IsBuffer, ClientBytes, VertexPointer, NormalPointer, ColorPointer, TexCoordPointer, EnableClientState, DisableClientState, ClientActiveTexture, DrawArrays, DrawElements, GenBuffers, DeleteBuffers, BindBuffer, BufferData, BufferSubData, Clear}
 use Rattle.gl_records.specs.declared.size.Size.{Size}
 use Rattle.gl_records.specs.Captured.{Captured}
 use Rattle.gl_records.specs.Captured as captured
 use Rattle.gl_records.specs.Surface.{Surface}
+use Rattle.gl_query.specs.declared.bound.Bound.{Bound}
 use Rattle.gl_query.specs.Answer.{answer_of}
 use Rattle.gl_query.specs.Values.{one, truth}
 use Rattle.gl_state.specs.declared.state.State.{State}
@@ -16,9 +19,10 @@ use Rattle.gl_state.specs.State.{ran}
 use Rattle.gl_tokens.specs.ArrayKind as array_kind
 use Rattle.gl_tokens.specs.Commands.{within}
 use Rattle.gl_tokens.specs.declared.array_kind.ArrayKind.{ArrayKind}
+use Rattle.gl_tokens.specs.declared.buffer_target.BufferTarget.TheVariants.{Array, ElementArray}
 use Rattle.gl_tokens.specs.declared.gl_error.GlError.{GlError}
 use Rattle.output_format.specs.Frames.{frame}
-use Rattle.output_format.specs.Log.{raise_line, error_line, get_line}
+use Rattle.output_format.specs.Log.{raise_line, error_line, get_line, names_line}
 use Rattle.vertex_fetch.specs.declared.arrays.Arrays.{Arrays}
 use Rattle.vertex_fetch.specs.Arrays.{is_enabled, with_command}
 use Rattle.vertex_fetch.specs.Draws.{draw_error}
@@ -46,6 +50,9 @@ on_arrays context = within (λ arrays. record context { arrays = arrays })
 abbrev pub on_regions : Context → List (List ℕ) × Option GlError → Context × Option GlError
 on_regions context = within (λ regions. record context { regions = regions })
 
+abbrev pub on_buffers : Context → BufferObjects × Option GlError → Context × Option GlError
+on_buffers context = within (λ buffers. record context { buffers = buffers })
+
 -- the client's active unit: the arrays go by it, and the state has it for queries
 abbrev pub client_unit : Context → ℕ → Arrays × Option GlError → Context × Option GlError
 client_unit context texture (arrays, None) =
@@ -57,14 +64,19 @@ abbrev pub array_answer : Context → Option ArrayKind → Result (List ℤ) GlE
 array_answer context (Some kind) other = Ok (one (truth (is_enabled context.arrays kind)))
 array_answer context None other = other
 
--- what a query answers: IsEnabled of an array asks the arrays, and all else the state
+-- the names of the buffer objects that are bound
+abbrev pub bound_names : BufferObjects → Bound
+bound_names buffers = record { array = binding buffers Array; element = binding buffers ElementArray }
+
+-- what a query answers: IsEnabled of an array asks the arrays, IsBuffer the buffer objects, and all else the state
 abbrev pub queried : Context → Rec → Result (List ℤ) GlError
 queried context (IsEnabled capability) =
-    array_answer context (array_kind.from_code_of capability) (answer_of context.state (IsEnabled capability))
-queried context rec = answer_of context.state rec
+    array_answer context (array_kind.from_code_of capability) (answer_of context.state (bound_names context.buffers) (IsEnabled capability))
+queried context (IsBuffer name) = Ok (one (truth (is_buffer context.buffers name)))
+queried context rec = answer_of context.state (bound_names context.buffers) rec
 
 -- a query that can't be answered makes an error; one that can has a line
-abbrev pub answer_error : Result (List ℤ) GlError → Option GlError
+abbrev pub answer_error : {A : Type 0} → Result A GlError → Option GlError
 answer_error (Ok values) = None
 answer_error (Err error) = Some error
 
@@ -72,28 +84,54 @@ abbrev pub answer_line : ℕ → Result (List ℤ) GlError → Option (List ℕ)
 answer_line index (Ok values) = Some (get_line index values)
 answer_line index (Err error) = None
 
+-- names that are given have a line
+abbrev pub given_line : ℕ → Result (List ℕ) GlError → Option (List ℕ)
+given_line index (Ok names) = Some (names_line index names)
+given_line index (Err error) = None
+
+-- GenBuffers, by the names that it gives or its error
+abbrev pub generated : Context → Result (List ℕ) GlError → Context × Option GlError
+generated context given = (record context { buffers = behind_names context.buffers given }, answer_error given)
+
 -- the context after a command, and the command's error; the flag doesn't have that error yet
 abbrev pub commanded : Context → Rec → Context × Option GlError
 commanded context GetError = (record context { flag = None }, None)
 commanded context (Get query) = (context, answer_error (queried context (Get query)))
 commanded context (IsEnabled capability) = (context, answer_error (queried context (IsEnabled capability)))
+commanded context (IsBuffer name) = (context, answer_error (queried context (IsBuffer name)))
 commanded context (ClientBytes region piece) = on_regions context (with_region context.regions region piece)
 commanded context (VertexPointer size kind stride region offset) =
-    on_arrays context (with_command context.arrays (VertexPointer size kind stride region offset))
+    on_arrays context (with_command context.arrays context.buffers.bindings.array (VertexPointer size kind stride region offset))
 commanded context (NormalPointer kind stride region offset) =
-    on_arrays context (with_command context.arrays (NormalPointer kind stride region offset))
+    on_arrays context (with_command context.arrays context.buffers.bindings.array (NormalPointer kind stride region offset))
 commanded context (ColorPointer size kind stride region offset) =
-    on_arrays context (with_command context.arrays (ColorPointer size kind stride region offset))
+    on_arrays context (with_command context.arrays context.buffers.bindings.array (ColorPointer size kind stride region offset))
 commanded context (TexCoordPointer size kind stride region offset) =
-    on_arrays context (with_command context.arrays (TexCoordPointer size kind stride region offset))
-commanded context (EnableClientState array) = on_arrays context (with_command context.arrays (EnableClientState array))
-commanded context (DisableClientState array) = on_arrays context (with_command context.arrays (DisableClientState array))
+    on_arrays context (with_command context.arrays context.buffers.bindings.array (TexCoordPointer size kind stride region offset))
+commanded context (EnableClientState array) = on_arrays context (with_command context.arrays context.buffers.bindings.array (EnableClientState array))
+commanded context (DisableClientState array) = on_arrays context (with_command context.arrays context.buffers.bindings.array (DisableClientState array))
 commanded context (ClientActiveTexture texture) =
-    client_unit context texture (with_command context.arrays (ClientActiveTexture texture))
-commanded context (DrawArrays mode first count) = (context, draw_error (DrawArrays mode first count))
-commanded context (DrawElements mode count kind region offset) = (context, draw_error (DrawElements mode count kind region offset))
+    client_unit context texture (with_command context.arrays context.buffers.bindings.array (ClientActiveTexture texture))
+commanded context (DrawArrays mode first count) = (context, draw_error context.buffers.bindings.element_array (DrawArrays mode first count))
+commanded context (DrawElements mode count kind region offset) =
+    (context, draw_error context.buffers.bindings.element_array (DrawElements mode count kind region offset))
+commanded context (GenBuffers count) = generated context (given_names context.buffers count)
+commanded context (DeleteBuffers names) = (record context { buffers = without_names context.buffers names }, None)
+commanded context (BindBuffer target name) = on_buffers context (bind context.buffers target name)
+commanded context (BufferData target usage size piece) = on_buffers context (data_of context.buffers target usage size piece)
+commanded context (BufferSubData target offset size piece) = on_buffers context (sub_data context.buffers target offset size piece)
 commanded context (Clear mask) = (context, clear_error mask)
 commanded context rec = on_state context (ran context.state rec)
+
+-- a command that may change a client region, a buffer object or what is bound
+abbrev pub changes_memory : Rec → Bool
+changes_memory (ClientBytes region piece) = true
+changes_memory (GenBuffers count) = true
+changes_memory (DeleteBuffers names) = true
+changes_memory (BindBuffer target name) = true
+changes_memory (BufferData target usage size piece) = true
+changes_memory (BufferSubData target offset size piece) = true
+changes_memory rec = false
 
 -- the items of a command that makes no error: only a draw and a Clear have some
 abbrev pub items_of : Size → Context → Rec → List Captured
@@ -103,11 +141,13 @@ items_of size context (DrawElements mode count kind region offset) =
 items_of size context (Clear mask) = map captured.Clear (option_to_list (clear_item context.state mask size))
 items_of size context _ = []
 
--- the line of a command that makes no error: GetError answers the flag, and a query its numbers
+-- the line of a command that makes no error: GetError answers the flag, a query its numbers, and GenBuffers the names
 abbrev pub line_of : Context → ℕ → Rec → Option (List ℕ)
 line_of context index GetError = Some (error_line index (flag_code context.flag))
 line_of context index (Get query) = answer_line index (queried context (Get query))
 line_of context index (IsEnabled capability) = answer_line index (queried context (IsEnabled capability))
+line_of context index (IsBuffer name) = answer_line index (queried context (IsBuffer name))
+line_of context index (GenBuffers count) = given_line index (given_names context.buffers count)
 line_of context index _ = None
 
 -- the context with an error in its flag

@@ -1,5 +1,6 @@
 -- The context of the commands.
 use Rattle.std.specs.Prelude.{ℕ, List, Option, None}
+use Rattle.buffer_objects.specs.Buffers.{BufferObjects, opening_buffers}
 use Rattle.gl_records.specs.declared.size.Size.{Size}
 use Rattle.gl_state.specs.declared.state.State.{State}
 use Rattle.gl_state.specs.State.{opening_state}
@@ -15,8 +16,10 @@ pub record Context : Type 0 where
   pub flag : Option GlError
   -- where the vertex arrays lie, and which of them are on
   pub arrays : Arrays
-  -- the bytes that the arrays are read from
+  -- what client regions hold
   pub regions : List (List ℕ)
+  -- the buffer objects, and which are bound
+  pub buffers : BufferObjects
 
 -- the context before the first command
 abbrev pub opening_context : Size → Context
@@ -25,4 +28,5 @@ opening_context size = record {
   flag = None;
   arrays = opening_arrays;
   regions = opening_regions;
+  buffers = opening_buffers;
 }

@@ -1,7 +1,8 @@
 -- The items of a draw (OpenGL ES 1.1.12, 2.6 to 2.12).
 use Rattle.std.specs.Prelude.{ℕ, ℤ, List, [], map, Option, Some, None, if◌then◌else◌, unsigned_abs}
 use Rattle.draw_primitives.specs.declared.draw_state.DrawState.{DrawState}
-use Rattle.draw_primitives.specs.Draw.{Source, primitives_of}
+use Rattle.draw_primitives.specs.Draw.{primitives_of}
+use Rattle.draw_primitives.specs.Memory.{Memory, Source}
 use Rattle.gl_records.specs.declared.frag_state.FragState.{FragState}
 use Rattle.gl_records.specs.declared.rec.Rec.{Rec}
 use Rattle.gl_records.specs.declared.size.Size.{Size}
@@ -19,7 +20,7 @@ use Rattle.vertex_fetch.specs.Arrays.{is_enabled}
 use Rattle.draw_front.specs.Context.{Context}
 
 -- what the state fixes for a draw
-abbrev pub draw_state : State → DrawState
+unfoldable pub draw_state : State → DrawState
 draw_state s = record {
   vertex = vertex_state s;
   current = attribs s.current;
@@ -31,9 +32,13 @@ draw_state s = record {
 unfoldable pub fragments_of : State → FragState
 fragments_of s = frag_state s no_images
 
+-- what vertices are read from
+abbrev pub memory_of : Context → Memory
+memory_of context = record { arrays = context.arrays; buffers = context.buffers; regions = context.regions }
+
 -- where a draw takes its vertices from
 abbrev pub source : Context → Rec → Source
-source context rec = record { rec = rec; arrays = context.arrays; regions = context.regions }
+source context rec = record { rec = rec; element = context.buffers.bindings.element_array; memory = memory_of context }
 
 -- the items of a draw of n vertices; without the vertex array it has none
 abbrev pub drawn : Size → Context → Rec → Option Mode → ℕ → List Captured

@@ -18,13 +18,13 @@ use Rattle.vertex_fetch.specs.Draws.{draw_error}
 use Rattle.draw_front.specs.declared.pending.Pending.{Pending}
 use Rattle.draw_front.specs.declared.pending.Pending.TheVariants.{Nothing, Clear, Draw}
 use Rattle.draw_front.specs.Context.{Context}
-use Rattle.draw_front.specs.Draws.{draw_state, fragments_of}
+use Rattle.draw_front.specs.Draws.{draw_state, fragments_of, memory_of}
 
 -- the items themselves
 abbrev pub items_left : Size → Context → Pending → List Captured
 items_left size context Nothing = []
 items_left size context (Clear clear) = captured.Clear clear ∷ []
-items_left size context (Draw fragments rest) = map (λ prim. captured.Draw prim fragments) (primitives_left context.arrays context.regions size rest)
+items_left size context (Draw fragments rest) = map (λ prim. captured.Draw prim fragments) (primitives_left (memory_of context) size rest)
 
 -- what holds of them: a Clear can be drawn
 abbrev pub IsPending : Size → Pending → Type 0
@@ -40,11 +40,11 @@ pending_clear None = Nothing
 -- how a draw of n vertices is kept: nothing where it has an error, or where there is no vertex array
 abbrev pub pending_vertices : Context → Rec → Option GlError → Option Mode → ℕ → Pending
 pending_vertices context rec None (Some mode) n =
-    if is_enabled context.arrays Vertex then Draw (fragments_of context.state) (all_of (draw_state context.state) rec mode n) else Nothing
+    if is_enabled context.arrays Vertex then Draw (fragments_of context.state) (all_of (draw_state context.state) rec context.buffers.bindings.element_array mode n) else Nothing
 pending_vertices context rec _ _ n = Nothing
 
 abbrev pub pending_draw : Context → Rec → ℕ → ℤ → Pending
-pending_draw context rec mode count = pending_vertices context rec (draw_error rec) (mode_codes.from_code_of mode) (unsigned_abs count)
+pending_draw context rec mode count = pending_vertices context rec (draw_error context.buffers.bindings.element_array rec) (mode_codes.from_code_of mode) (unsigned_abs count)
 
 -- how they are kept before the first one
 abbrev pub pending_of : Size → Context → Rec → Pending

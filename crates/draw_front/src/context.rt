@@ -1,15 +1,19 @@
-ghost use Rattle.std.specs.Prelude.{◌≡◌, OnSome};
+ghost use Rattle.std.specs.Prelude.{◌≡◌, false, IfOk, OnErr, OnSome};
 ghost use Rattle.gl_records.specs.Size.{IsSize};
 ghost use Rattle.gl_query.specs.Values.{answered, one as one_of, truth as truth_of};
-ghost use Rattle.draw_front.specs.Call.{answer_error, commanded, queried, with_error};
+ghost use Rattle.draw_front.specs.Call.{answer_error, bound_names, changes_memory, commanded, on_arrays, queried, with_error};
 ghost use Rattle.draw_front.specs.Context.{opening_context};
-ghost use Rattle.gl_records.specs.declared.rec.Rec.TheVariants.{ClientActiveTexture};
+ghost use Rattle.draw_front.specs.Draws.{memory_of};
+ghost use Rattle.vertex_fetch.specs.Arrays.{with_command};
+ghost use Rattle.gl_records.specs.declared.rec.Rec.TheVariants.{BufferSubData, ClientActiveTexture, DeleteBuffers, GenBuffers};
 
-use gl_query::{Values, answer, truth};
-use gl_records::{Rec, Size};
+use buffer_objects::{BufferKey, Buffers};
+use draw_primitives::Memory;
+use gl_query::{Bound, Values, answer, truth};
+use gl_records::{Bytes, Rec, Size, Words};
 use gl_state::{ErrorFlag, State, clear_error};
-use gl_tokens::{ArrayKind, GlError};
-use std::alloc::Global;
+use gl_tokens::{ArrayKind, BufferTarget, GlError};
+use std::alloc::{AllocError, Global};
 use std::marker::Model;
 use vertex_fetch::{Arrays, Regions, draw_error};
 
@@ -21,20 +25,27 @@ pub struct Context {
     pub(crate) flag: ErrorFlag,
     /// Where the vertex arrays lie, and which of them are on.
     pub(crate) arrays: Arrays,
-    /// The bytes that the arrays are read from.
+    /// What client regions hold.
     pub(crate) regions: Regions,
+    /// The buffer objects, and which are bound.
+    pub(crate) buffers: Buffers,
 }
 
 impl Model for Context {
+    ghost use Rattle.buffer_objects.specs.Buffers.{buffers_code};
     ghost use Rattle.draw_front.specs.Context.{Context};
+    ghost use Rattle.std.specs.Coded.{codes};
 
     ghost Value = { Context };
+
+    ghost coded = { Prim.hlevel (codes, buffers_code) };
 
     ghost view = { λ context. record {
       state = context.state;
       flag = context.flag;
       arrays = context.arrays;
       regions = context.regions;
+      buffers = context.buffers;
     } };
 }
 
@@ -49,12 +60,42 @@ impl Context {
             flag: ErrorFlag::new(),
             arrays: Arrays::new(),
             regions: Regions::new(alloc),
+            buffers: Buffers::new(alloc),
         }
     }
 
-    /// Runs the record's command, and answers its error, which the flag doesn't have yet.
-    pub fn run(&mut self, rec: Rec) -> Option<GlError>
-        ensures run { (self.new, result) ≡ commanded self.old rec }
+    /// Runs the record's command, and answers its error, which the flag doesn't have yet. Where memory is out, nothing is
+    /// changed.
+    pub fn run(&mut self, rec: Rec) -> Result<Option<GlError>, AllocError>
+        ensures run { IfOk result (λ error. (self.new, error) ≡ commanded self.old rec) }
+        ensures unchanged { IfOk result (λ error. OnSome error (self.new ≡ self.old)) }
+        ensures memory { OnErr result (self.new ≡ self.old) }
+    {
+        match rec {
+            Rec::ClientBytes { region, piece } => Ok(self.regions.set(region, piece)),
+            Rec::GenBuffers { count } => self.gen_buffers(count),
+            Rec::BindBuffer { target, name } => self.buffers.bind(target, name),
+            Rec::BufferData {
+                target,
+                usage,
+                size,
+                piece,
+            } => self.buffers.fill(target, usage, size, piece),
+            Rec::DeleteBuffers { names } => Ok(self.delete_buffers(&names)),
+            Rec::BufferSubData {
+                target,
+                offset,
+                size,
+                piece,
+            } => Ok(self.buffer_sub_data(target, offset, size, &piece)),
+            rec => Ok(self.run_beside_memory(&rec)),
+        }
+    }
+
+    /// Runs a command that changes no client region, no buffer object and no binding of one.
+    fn run_beside_memory(&mut self, rec: &Rec) -> Option<GlError>
+        requires { changes_memory rec.now ≡ false }
+        ensures run { (self.new, result) ≡ commanded self.old rec.now }
         ensures unchanged { OnSome result (self.new ≡ self.old) }
     {
         match rec {
@@ -62,19 +103,88 @@ impl Context {
                 self.flag.take();
                 None
             }
-            Rec::Get { .. } | Rec::IsEnabled { .. } => self.query_error(&rec),
-            Rec::ClientBytes { region, piece } => self.regions.set(region, piece),
+            Rec::Get { .. } | Rec::IsEnabled { .. } | Rec::IsBuffer { .. } => self.query_error(rec),
             Rec::VertexPointer { .. }
             | Rec::NormalPointer { .. }
             | Rec::ColorPointer { .. }
             | Rec::TexCoordPointer { .. }
             | Rec::EnableClientState { .. }
-            | Rec::DisableClientState { .. } => self.arrays.set(&rec),
-            Rec::ClientActiveTexture { texture } => self.client_unit(texture),
-            Rec::DrawArrays { .. } | Rec::DrawElements { .. } => draw_error(&rec),
-            Rec::Clear { mask } => clear_error(mask),
-            rec => self.state.apply(&rec),
+            | Rec::DisableClientState { .. } => self.set_array(rec),
+            Rec::ClientActiveTexture { texture } => self.client_unit(*texture),
+            Rec::DrawArrays { .. } | Rec::DrawElements { .. } => {
+                draw_error(rec, self.element_buffer())
+            }
+            Rec::Clear { mask } => clear_error(*mask),
+            _ => self.state.apply(rec),
         }
+    }
+
+    fn gen_buffers(&mut self, count: i32) -> Result<Option<GlError>, AllocError>
+        ensures run { IfOk result (λ error. (self.new, error) ≡ commanded self.old (GenBuffers count)) }
+        ensures unchanged { IfOk result (λ error. OnSome error (self.new ≡ self.old)) }
+        ensures memory { OnErr result (self.new ≡ self.old) }
+    {
+        match self.buffers.make_names(count)? {
+            Ok(_) => Ok(None),
+            Err(error) => Ok(Some(error)),
+        }
+    }
+
+    fn delete_buffers(&mut self, names: &Words) -> Option<GlError>
+        ensures run { (self.new, result) ≡ commanded self.old (DeleteBuffers names.now) }
+        ensures unchanged { OnSome result (self.new ≡ self.old) }
+    {
+        self.buffers.drop_names(names.as_slice());
+        None
+    }
+
+    fn buffer_sub_data(
+        &mut self,
+        target: u32,
+        offset: i32,
+        size: i32,
+        piece: &Bytes,
+    ) -> Option<GlError>
+        ensures run { (self.new, result) ≡ commanded self.old (BufferSubData target offset size piece.now) }
+        ensures unchanged { OnSome result (self.new ≡ self.old) }
+    {
+        self.buffers.sub(target, offset, size, piece.as_slice())
+    }
+
+    /// The buffer object that is bound to ARRAY_BUFFER.
+    fn array_buffer(&self) -> Option<BufferKey>
+        ensures { result ≡ self.now.buffers.bindings.array }
+    {
+        match self.buffers.bound(BufferTarget::Array.code()) {
+            Some((_, key)) => Some(key),
+            None => None,
+        }
+    }
+
+    /// The buffer object that is bound to ELEMENT_ARRAY_BUFFER.
+    pub fn element_buffer(&self) -> Option<BufferKey>
+        ensures { result ≡ self.now.buffers.bindings.element_array }
+    {
+        match self.buffers.bound(BufferTarget::ElementArray.code()) {
+            Some((_, key)) => Some(key),
+            None => None,
+        }
+    }
+
+    /// What vertices are read from.
+    pub fn memory(&self) -> Memory<'_>
+        ensures { result ≡ memory_of self.now }
+    {
+        Memory::new(&self.arrays, &self.buffers, &self.regions)
+    }
+
+    /// A command of an array's pointer or of its switch.
+    fn set_array(&mut self, rec: &Rec) -> Option<GlError>
+        ensures run { (self.new, result) ≡ on_arrays self.old (with_command self.old.arrays self.old.buffers.bindings.array rec.now) }
+        ensures unchanged { OnSome result (self.new ≡ self.old) }
+    {
+        let bound = self.array_buffer();
+        self.arrays.set(rec, bound)
     }
 
     /// Keeps the error in the flag, if that had none.
@@ -90,24 +200,38 @@ impl Context {
         ensures unchanged { OnSome result (self.new ≡ self.old) }
     {
         let rec = Rec::ClientActiveTexture { texture };
-        if let Some(error) = self.arrays.set(&rec) {
+        if let Some(error) = self.set_array(&rec) {
             return Some(error);
         }
         self.state.apply(&rec);
         None
     }
 
-    /// What a query answers. InvalidEnum where Get asks for a value that isn't answered, or IsEnabled for what is neither a
-    /// capability nor an array.
+    /// What a query answers; IsBuffer is one. InvalidEnum where Get asks for a value that isn't answered, or IsEnabled for
+    /// what is neither a capability nor an array.
     pub fn query(&self, rec: &Rec) -> Result<Values, GlError>
         ensures { answered result ≡ queried self.now rec.now }
     {
-        if let Rec::IsEnabled { capability } = rec {
-            if let Some(kind) = ArrayKind::from_code(*capability) {
-                return Ok(truth(self.arrays.enabled(kind)));
+        match rec {
+            Rec::IsEnabled { capability } => {
+                if let Some(kind) = ArrayKind::from_code(*capability) {
+                    return Ok(truth(self.arrays.enabled(kind)));
+                }
+                answer(&self.state, &self.bound(), rec)
             }
+            Rec::IsBuffer { name } => Ok(truth(self.buffers.is_buffer(*name))),
+            _ => answer(&self.state, &self.bound(), rec),
         }
-        answer(&self.state, rec)
+    }
+
+    /// The names of what is bound.
+    fn bound(&self) -> Bound
+        ensures { result ≡ bound_names self.now.buffers }
+    {
+        Bound {
+            array: self.buffers.binding(BufferTarget::Array),
+            element: self.buffers.binding(BufferTarget::ElementArray),
+        }
     }
 
     fn query_error(&self, rec: &Rec) -> Option<GlError>

@@ -5,14 +5,16 @@ ghost use Rattle.draw_front.specs.Draws.{draw_state as draw_state_of, fragments_
 use draw_primitives::DrawState;
 use gl_records::FragState;
 use gl_state::State;
+use vertex_stage::Stage;
 
 /// What the state fixes for a draw at this moment.
+#[tactic(auto, unfolding(crate::specs::Draws::draw_state))]
 pub fn draw_state(state: &State) -> DrawState
     ensures value { result ≡ draw_state_of state.now }
     ensures ranges { AreRulesInRange result.rules }
 {
     DrawState {
-        vertex: state.vertex_state(),
+        vertex: Stage::new(&state.vertex_state()),
         current: state.current(),
         flat: state.flat(),
         rules: state.setup_rules(),

@@ -12,7 +12,7 @@ use crate::pending::Pending;
 use crate::step::Step;
 use gl_records::{Bytes, Item, Rec, Size};
 use gl_tokens::GlError;
-use output_format::{append_error, append_get, append_raise};
+use output_format::{append_error, append_get, append_names, append_raise};
 use std::alloc::{AllocError, Global};
 use std::marker::Model;
 use std::mem;
@@ -38,8 +38,12 @@ impl Model for Front {
     ghost use Rattle.trace_reader.specs.Reading.{index_after as index_after_of};
     ghost use Rattle.draw_front.specs.Collecting.{Collecting};
     ghost use Rattle.draw_front.specs.Pending.{IsPending, items_left};
+    ghost use Rattle.buffer_objects.specs.Buffers.{buffers_code};
+    ghost use Rattle.std.specs.Coded.{codes};
 
     ghost Value = { Collecting };
+
+    ghost coded = { Prim.hlevel (codes, buffers_code) };
 
     ghost view = { λ front. record {
       size = front.size;
@@ -93,11 +97,16 @@ impl Front {
         let step = Step::of(&rec);
         let pending = Pending::of(&self.context, self.size, &rec);
         let index = index_after(self.index, &rec);
+        let waiting = self.lines.len();
         let Ok(made) = append_line(self.alloc, &mut self.lines, self.index, &self.context, &rec)
         else {
             return Err(self.run_out());
         };
-        match self.context.run(rec) {
+        let Ok(error) = self.context.run(rec) else {
+            self.lines.truncate(waiting);
+            return Err(self.run_out());
+        };
+        match error {
             None => {
                 self.pending = pending;
                 self.line_count += made;
@@ -210,7 +219,14 @@ fn append_line(
             append_error(alloc, lines, index, flag.take())?;
             Ok(1)
         }
-        Rec::Get { .. } | Rec::IsEnabled { .. } => match context.query(rec) {
+        Rec::GenBuffers { count } => match context.buffers.names_for(*count)? {
+            Ok(names) => {
+                append_names(alloc, lines, index, &names)?;
+                Ok(1)
+            }
+            Err(_) => Ok(0),
+        },
+        Rec::Get { .. } | Rec::IsEnabled { .. } | Rec::IsBuffer { .. } => match context.query(rec) {
             Ok(values) => {
                 append_get(alloc, lines, index, values.as_slice())?;
                 Ok(1)

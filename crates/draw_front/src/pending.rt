@@ -77,11 +77,7 @@ impl Pending {
                 *self = Pending::Nothing;
                 Some(Item::Clear(clear))
             }
-            Pending::Draw(fragments, draw) => match draw.next(
-                &context.arrays,
-                &context.regions,
-                size,
-            ) {
+            Pending::Draw(fragments, draw) => match draw.next(&context.memory(), size) {
                 Some(prim) => Some(Item::Draw(prim, *fragments)),
                 None => None,
             },
@@ -95,10 +91,12 @@ fn pending_draw(context: &Context, rec: Rec, mode: u32, count: i32) -> Pending
     ensures valid { (size : SizeOf) → IsPending size result }
     ensures value { result ≡ pending_draw_of context.now rec mode count }
 {
-    match (draw_error(&rec), Mode::from_code(mode)) {
+    let element = context.element_buffer();
+    match (draw_error(&rec, element), Mode::from_code(mode)) {
         (None, Some(mode)) => {
             if context.arrays.enabled(ArrayKind::Vertex) {
-                let draw = Draw::new(draw_state(&context.state), rec, mode, count.unsigned_abs());
+                let state = draw_state(&context.state);
+                let draw = Draw::new(state, rec, element, mode, count.unsigned_abs());
                 Pending::Draw(fragments(&context.state), draw)
             } else {
                 Pending::Nothing

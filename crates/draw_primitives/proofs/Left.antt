@@ -10,7 +10,8 @@ use Rattle.gl_records.specs.declared.setup_rules.SetupRules.{SetupRules}
 use Rattle.gl_records.specs.declared.size.Size.{Size}
 use Rattle.primitive_setup.specs.Setup.{setup_of}
 use Rattle.draw_primitives.specs.declared.draw_state.DrawState.{DrawState}
-use Rattle.draw_primitives.specs.Draw.{Source, corners_of, set_up_of, set_up_all}
+use Rattle.draw_primitives.specs.Draw.{corners_of, set_up_of, set_up_all}
+use Rattle.draw_primitives.specs.Memory.{Source}
 use Rattle.draw_primitives.specs.Fan.{clipped, fan, fan_from, piece, set_up}
 
 -- the pieces of a fan from one on are that one, and then those from the next one on

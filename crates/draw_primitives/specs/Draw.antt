@@ -1,6 +1,6 @@
 -- The primitives of a draw, in their order: corners from the arrays, flat colours, clipping, set-up
 -- (OpenGL ES 1.1.12, 2.6 to 2.12).
-use Rattle.std.specs.Prelude.{ℕ, ◌<◌, ◌++◌, Bool, List, [], map, is_some, if◌then◌else◌}
+use Rattle.std.specs.Prelude.{ℕ, ◌<◌, ◌++◌, Bool, List, [], Option, map, is_some, if◌then◌else◌}
 use Rattle.std.specs.List.{flat_map}
 use Rattle.gl_records.specs.declared.clip_vertex.ClipVertex.{ClipVertex}
 use Rattle.gl_records.specs.declared.prim.PrimKind.{PrimKind}
@@ -12,10 +12,11 @@ use Rattle.gl_records.specs.ClipVertex.{vertex}
 use Rattle.gl_tokens.specs.declared.mode.Mode.{Mode}
 use Rattle.gl_tokens.specs.declared.mode.Mode.TheVariants as mode
 use Rattle.prim_assembly.specs.Primitives.{primitives}
-use Rattle.vertex_fetch.specs.declared.arrays.Arrays.{Arrays}
 use Rattle.vertex_fetch.specs.Draws.{HasVertex, index_of}
 use Rattle.vertex_fetch.specs.Fetch.{fetch_of}
 use Rattle.vertex_stage.specs.Vertex.{vertex_of}
+use Rattle.buffer_objects.specs.declared.buffer_key.BufferKey.{BufferKey}
+use Rattle.draw_primitives.specs.Memory.{Memory, Source}
 use Rattle.draw_primitives.specs.declared.draw_state.DrawState.{DrawState}
 use Rattle.draw_primitives.specs.Fan.{clipped, fan, set_up}
 
@@ -29,15 +30,11 @@ kind_of mode.Triangles = Triangle
 kind_of mode.TriangleStrip = Triangle
 kind_of mode.TriangleFan = Triangle
 
--- where a draw takes its vertices from: its record, the arrays and the client regions
-pub record Source : Type 0 where
-  pub rec : Rec
-  pub arrays : Arrays
-  pub regions : List (List ℕ)
-
 -- vertex k of a draw, in clip coordinates
 unfoldable pub vertex_at : DrawState → Source → ℕ → ClipVertex
-vertex_at state source k = vertex_of state.vertex (fetch_of source.arrays source.regions state.current (index_of source.rec source.regions k))
+vertex_at state source k =
+    let memory = source.memory in
+    vertex_of state.vertex (fetch_of memory.arrays memory.buffers memory.regions state.current (index_of source.rec source.element memory.buffers memory.regions k))
 
 -- the vertex with the colours of another
 abbrev pub with_colors_of : ClipVertex → ClipVertex → ClipVertex
@@ -65,24 +62,26 @@ abbrev pub primitives_of : DrawState → Source → Size → Mode → ℕ → Li
 primitives_of state source size mode n = set_up_all state source size (kind_of mode) (primitives mode n)
 
 -- a draw without error that has vertices 0 to n - 1
-abbrev pub HasVertices : Rec → ℕ → Type 0
-HasVertices rec n = (k : ℕ) → k < n → HasVertex rec k
+abbrev pub HasVertices : Option BufferKey → Rec → ℕ → Type 0
+HasVertices element rec n = (k : ℕ) → k < n → HasVertex element rec k
 
 -- what is still to come of a draw: the pieces of the primitive in hand, and the primitives behind it, by the numbers of their
 -- vertices
 pub record Rest : Type 0 where
   pub state : DrawState
   pub rec : Rec
+  pub element : Option BufferKey
   pub kind : PrimKind
   pub pieces : List (List ClipVertex)
   pub behind : List (List ℕ)
 
 -- before the first primitive
-abbrev pub all_of : DrawState → Rec → Mode → ℕ → Rest
-all_of state rec mode n = record { state = state; rec = rec; kind = kind_of mode; pieces = []; behind = primitives mode n }
+abbrev pub all_of : DrawState → Rec → Option BufferKey → Mode → ℕ → Rest
+all_of state rec element mode n =
+    record { state = state; rec = rec; element = element; kind = kind_of mode; pieces = []; behind = primitives mode n }
 
--- the primitives themselves, from these arrays and regions
-abbrev pub primitives_left : Arrays → List (List ℕ) → Size → Rest → List Primitive
-primitives_left arrays regions size rest =
+-- the primitives themselves, from this memory
+abbrev pub primitives_left : Memory → Size → Rest → List Primitive
+primitives_left memory size rest =
     set_up rest.state.rules rest.kind size rest.pieces
-    ++ set_up_all rest.state (record { rec = rest.rec; arrays = arrays; regions = regions }) size rest.kind rest.behind
+    ++ set_up_all rest.state (record { rec = rest.rec; element = rest.element; memory = memory }) size rest.kind rest.behind

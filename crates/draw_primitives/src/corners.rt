@@ -1,27 +1,28 @@
 //! The corners of a primitive.
 ghost use Rattle.std.specs.Prelude.{◌≡◌, ◌<◌, ◌<ℤ◌, pos, All, map};
 ghost use Rattle.vertex_fetch.specs.Draws.{HasVertex};
-ghost use Rattle.draw_primitives.specs.Draw.{Source, vertex_at as vertex_at_of, with_colors_of as with_colors_of_last, shaded as shaded_of, corners_of};
+ghost use Rattle.draw_primitives.specs.Draw.{vertex_at as vertex_at_of, with_colors_of as with_colors_of_last, shaded as shaded_of, corners_of};
 
 use crate::draw_state::DrawState;
+use crate::memory::Memory;
+use buffer_objects::BufferKey;
 use gl_records::{ClipVertex, Rec};
-use vertex_fetch::{Arrays, Regions, fetch, index_at};
-use vertex_stage::run;
+use vertex_fetch::{fetch, index_at};
 
 /// The corners of the primitive with these vertices of the draw, in clip coordinates; a flat one has the colours of its last
 /// corner. A vertex that stands twice is fetched once.
 pub fn corners(
     state: &DrawState,
     rec: &Rec,
-    arrays: &Arrays,
-    regions: &Regions,
+    element: Option<BufferKey>,
+    memory: &Memory<'_>,
     numbers: [u32; 3],
 ) -> [ClipVertex; 3]
-    requires { All (HasVertex rec.now) numbers }
-    ensures { result ≡ corners_of state.now (record { rec = rec.now; arrays = arrays.now; regions = regions.now }) numbers }
+    requires { All (HasVertex element rec.now) numbers }
+    ensures { result ≡ corners_of state.now (record { rec = rec.now; element = element; memory = memory.now }) numbers }
 {
     let [i, j, k] = numbers;
-    let vertex = |number| vertex_at(state, rec, arrays, regions, number);
+    let vertex = |number| vertex_at(state, rec, element, memory, number);
     let a = vertex(i);
     let b = if j == i { a } else { vertex(j) };
     let c = if k == j { b } else { vertex(k) };
@@ -36,18 +37,22 @@ pub fn corners(
 fn vertex_at(
     state: &DrawState,
     rec: &Rec,
-    arrays: &Arrays,
-    regions: &Regions,
+    element: Option<BufferKey>,
+    memory: &Memory<'_>,
     number: u32,
 ) -> ClipVertex
-    requires { HasVertex rec.now number }
-    ensures { result ≡ vertex_at_of state.now (record { rec = rec.now; arrays = arrays.now; regions = regions.now }) number }
+    requires { HasVertex element rec.now number }
+    ensures { result ≡ vertex_at_of state.now (record { rec = rec.now; element = element; memory = memory.now }) number }
 {
-    let index = index_at(rec, regions, number);
-    run(
-        &state.vertex,
-        &fetch(arrays, regions, &state.current, index),
-    )
+    let Memory {
+        arrays,
+        buffers,
+        regions,
+    } = memory;
+    let index = index_at(rec, element, buffers, regions, number);
+    state
+        .vertex
+        .run(&fetch(arrays, buffers, regions, &state.current, index))
 }
 
 /// The vertex `v` with the colours of the last corner.

@@ -1,5 +1,5 @@
 //! A draw, and what is still to come of it.
-ghost use Rattle.std.specs.Prelude.{◌≡◌, ◌<◌, ◌≤◌, ◌++◌, [], drop, None, IsNone, IfSome, option_to_list, unsigned_abs};
+ghost use Rattle.std.specs.Prelude.{◌≡◌, ◌<◌, ◌≤◌, ◌++◌, [], drop, None, IsNone, IfSome, is_some, option_to_list, unsigned_abs};
 ghost use Rattle.gl_records.specs.SetupRules.{AreRulesInRange};
 ghost use Rattle.gl_records.specs.Valid.{IsValid};
 ghost use Rattle.prim_assembly.specs.Primitives.{primitives};
@@ -10,17 +10,20 @@ ghost use Rattle.draw_primitives.specs.Fan.{set_up};
 use crate::corners::corners;
 use crate::draw_state::DrawState;
 use crate::fan::Fan;
+use crate::memory::Memory;
+use buffer_objects::BufferKey;
 use gl_records::{Prim, PrimKind, Rec, Size};
 use gl_tokens::Mode;
 use prim_assembly::{corners as numbers_of, count};
 use std::marker::Model;
-use vertex_fetch::{Arrays, Regions};
 
 /// A draw in hand. It takes its vertices from the arrays only when their primitives are asked for.
 #[derive(Drop)]
 pub struct Draw {
     state: DrawState,
     rec: Rec,
+    /// The buffer object that its indices lie in.
+    element: Option<BufferKey>,
     assembly: Assembly,
     /// The primitive behind the one in hand.
     next: u32,
@@ -46,27 +49,35 @@ impl Model for Draw {
     ghost view = { λ draw. record {
       state = draw.state;
       rec = draw.rec;
+      element = draw.element;
       kind = kind_of draw.assembly.mode;
       pieces = draw.fan;
       behind = drop draw.next (primitives draw.assembly.mode draw.assembly.amount);
     } };
 
-    ghost invariant = { λ draw. AreRulesInRange draw.state.rules × HasVertices draw.rec draw.assembly.amount };
+    ghost invariant = { λ draw. AreRulesInRange draw.state.rules × HasVertices draw.element draw.rec draw.assembly.amount };
 }
 
 impl Draw {
-    /// A draw with all of its primitives to come. The record is DrawArrays or DrawElements without error, and `amount` is the
-    /// number of its vertices.
+    /// A draw with all of its primitives to come. The record is DrawArrays or DrawElements without error where `element` is
+    /// bound to ELEMENT_ARRAY_BUFFER, and `amount` is the number of its vertices.
     #[tactic(auto, using(crate::proofs::Vertices::has_vertices))]
-    pub fn new(state: DrawState, rec: Rec, mode: Mode, amount: u32) -> Draw
+    pub fn new(
+        state: DrawState,
+        rec: Rec,
+        element: Option<BufferKey>,
+        mode: Mode,
+        amount: u32,
+    ) -> Draw
         requires rules { AreRulesInRange state.rules }
-        requires allowed { draw_error rec ≡ None }
+        requires allowed { draw_error element rec ≡ None }
         requires vertices { amount ≡ unsigned_abs (vertex_count rec) }
-        ensures { result ≡ all_of state rec mode amount }
+        ensures { result ≡ all_of state rec element mode amount }
     {
         Draw {
             state,
             rec,
+            element,
             assembly: Assembly { mode, amount },
             next: 0,
             fan: Fan::empty(),
@@ -74,10 +85,10 @@ impl Draw {
     }
 
     /// Takes the next primitive, None exactly where none is left. It can be drawn on a surface of this size.
-    pub fn next(&mut self, arrays: &Arrays, regions: &Regions, size: Size) -> Option<Prim>
-        ensures prims { primitives_left arrays.now regions.now size self.old
-            ≡ option_to_list result ++ primitives_left arrays.now regions.now size self.new }
-        ensures none { IsNone result → primitives_left arrays.now regions.now size self.new ≡ [] }
+    pub fn next(&mut self, memory: &Memory<'_>, size: Size) -> Option<Prim>
+        ensures prims { primitives_left memory.now size self.old
+            ≡ option_to_list result ++ primitives_left memory.now size self.new }
+        ensures none { IsNone result → primitives_left memory.now size self.new ≡ [] }
         ensures valid { IfSome result (λ prim. IsValid prim size) }
     {
         let kind = kind_of(self.assembly.mode);
@@ -87,10 +98,10 @@ impl Draw {
         let (prim, fan, next) = next_prim(
             &self.state,
             &self.rec,
+            self.element,
             self.assembly,
             self.next,
-            arrays,
-            regions,
+            memory,
             size,
         );
         self.fan = fan;
@@ -104,34 +115,41 @@ impl Draw {
 fn next_prim(
     state: &DrawState,
     rec: &Rec,
+    element: Option<BufferKey>,
     assembly: Assembly,
     next: u32,
-    arrays: &Arrays,
-    regions: &Regions,
+    memory: &Memory<'_>,
     size: Size,
 ) -> (Option<Prim>, Fan, u32)
     requires rules { AreRulesInRange state.now.rules }
-    requires vertices { HasVertices rec.now assembly.amount }
-    ensures prims { set_up_all state.now (record { rec = rec.now; arrays = arrays.now; regions = regions.now }) size (kind_of_mode assembly.mode) (drop next (primitives assembly.mode assembly.amount))
+    requires vertices { HasVertices element rec.now assembly.amount }
+    ensures prims { set_up_all state.now (record { rec = rec.now; element = element; memory = memory.now }) size (kind_of_mode assembly.mode) (drop next (primitives assembly.mode assembly.amount))
         ≡ option_to_list result.0
         ++ set_up state.now.rules (kind_of_mode assembly.mode) size result.1
-        ++ set_up_all state.now (record { rec = rec.now; arrays = arrays.now; regions = regions.now }) size (kind_of_mode assembly.mode) (drop result.2 (primitives assembly.mode assembly.amount)) }
+        ++ set_up_all state.now (record { rec = rec.now; element = element; memory = memory.now }) size (kind_of_mode assembly.mode) (drop result.2 (primitives assembly.mode assembly.amount)) }
     ensures none { IsNone result.0 → result.1 ≡ [] }
     ensures end { IsNone result.0 → drop result.2 (primitives assembly.mode assembly.amount) ≡ [] }
     ensures valid { IfSome result.0 (λ prim. IsValid prim size) }
 {
     let kind = kind_of(assembly.mode);
-    let user = state.vertex.plane.is_some();
+    let user = has_plane(state);
     let end = count(assembly.mode, assembly.amount);
     for k in next..end {
         let numbers = numbers_of(assembly.mode, assembly.amount, k);
-        let corners = corners(state, rec, arrays, regions, numbers);
+        let corners = corners(state, rec, element, memory, numbers);
         let mut fan = Fan::clipped(kind, user, &corners);
         if let Some(prim) = fan.next(&state.rules, kind, size) {
             return (Some(prim), fan, k + 1);
         }
     }
     (None, Fan::empty(), end)
+}
+
+/// Whether the user's plane is on.
+fn has_plane(state: &DrawState) -> bool
+    ensures { result ≡ is_some state.now.vertex.plane }
+{
+    state.vertex.state().plane.is_some()
 }
 
 /// What a mode's primitives span.

@@ -6,8 +6,8 @@
 //! and transforms the corners of a primitive when the one before it is used up, and takes no memory but its own.
 //!
 //! ```text
-//! let mut draw = Draw::new(state, rec, Mode::TriangleStrip, 4); // before its first primitive
-//! draw.next(&arrays, &regions, size) // Some: a primitive that is valid for a surface of this size
+//! let mut draw = Draw::new(state, rec, None, Mode::TriangleStrip, 4); // before its first primitive
+//! draw.next(&Memory::new(&arrays, &buffers, &regions), size) // Some: a primitive that is valid for a surface of this size
 //! ```
 #![tactic(auto)]
 
@@ -15,9 +15,11 @@ mod corners;
 mod draw;
 mod draw_state;
 mod fan;
+mod memory;
 
 pub use draw::Draw;
 pub use draw_state::DrawState;
+pub use memory::Memory;
 
 #[cfg(test)]
 mod tests;

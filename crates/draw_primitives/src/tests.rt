@@ -3,6 +3,7 @@ ghost use Rattle.gl_records.specs.SetupRules.{AreRulesInRange};
 ghost use Rattle.gl_records.specs.Valid.{IsInRange};
 
 use super::*;
+use buffer_objects::Buffers;
 use coverage::rows;
 use fx_arith::{Fx, Mat4};
 use gl_records::{Attribs, Bytes, Material, Prim, Rec, SetupRules, Size, TileRect, VertexState};
@@ -10,6 +11,7 @@ use gl_tokens::Mode;
 use std::alloc::{AllocError, Global};
 use std::test::Fail;
 use vertex_fetch::{Arrays, Regions, draw_error};
+use vertex_stage::Stage;
 
 /// A tile.
 const SIZE: Size = Size { w: 16, h: 16 };
@@ -23,7 +25,7 @@ fn opening() -> DrawState
 {
     let (black, white) = ([Fx::ZERO; 4], [Fx::ONE; 4]);
     DrawState {
-        vertex: VertexState {
+        vertex: Stage::new(&VertexState {
             modelview: Mat4::identity(),
             projection: Mat4::identity(),
             texture: [Mat4::identity(), Mat4::identity()],
@@ -42,7 +44,7 @@ fn opening() -> DrawState
             },
             lights: [None; 8],
             fog: None,
-        },
+        }),
         current: Attribs {
             pos: white,
             normal: [Fx::ZERO; 3],
@@ -66,14 +68,15 @@ fn opening() -> DrawState
 /// Arrays with the positions x y of region 0 alone.
 fn positions() -> Arrays {
     let mut arrays = Arrays::new();
-    arrays.set(&Rec::VertexPointer {
+    let pointer = Rec::VertexPointer {
         size: 2,
         kind: 0x140C,
         stride: 0,
         region: 0,
         offset: 0,
-    });
-    arrays.set(&Rec::EnableClientState { array: 0x8074 });
+    };
+    arrays.set(&pointer, None);
+    arrays.set(&Rec::EnableClientState { array: 0x8074 }, None);
     arrays
 }
 
@@ -104,19 +107,21 @@ fn counted(
     let mut regions = Regions::new(alloc);
     regions.set(0, Bytes::new(bytes));
     let arrays = positions();
+    let buffers = Buffers::new(alloc);
+    let memory = Memory::new(&arrays, &buffers, &regions);
     let rec = Rec::DrawArrays {
         mode: code,
         first: 0,
         count: amount,
     };
     let mut counts = [[0; 16]; 16];
-    if draw_error(&rec).is_some() {
+    if draw_error(&rec, None).is_some() {
         return Ok(counts);
     }
-    let mut draw = Draw::new(opening(), rec, mode, amount.unsigned_abs());
+    let mut draw = Draw::new(opening(), rec, None, mode, amount.unsigned_abs());
     // no draw here leaves as many pieces
     for _ in 0..64 {
-        if let Some(prim) = draw.next(&arrays, &regions, SIZE) {
+        if let Some(prim) = draw.next(&memory, SIZE) {
             count(&prim, &mut counts);
         }
     }

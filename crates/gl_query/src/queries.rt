@@ -1,7 +1,8 @@
 ghost use Rattle.std.specs.Prelude.{◌≡◌};
-ghost use Rattle.gl_query.specs.Answer.{current as current_of, matrices as matrices_of, raster as raster_of, tests as tests_of, blending as blending_of, clears as clears_of, pixels as pixels_of, limits as limits_of, values_of, answer_of};
+ghost use Rattle.gl_query.specs.Answer.{current as current_of, matrices as matrices_of, raster as raster_of, tests as tests_of, blending as blending_of, clears as clears_of, pixels as pixels_of, bindings as bindings_of, limits as limits_of, values_of, answer_of};
 ghost use Rattle.gl_query.specs.Values.{items_of, answered};
 
+use crate::bound::Bound;
 use crate::values::{
     Values, code, depth, four, matrix, numbers, one, raws2, raws3, raws4, truth, truths,
 };
@@ -9,14 +10,14 @@ use gl_records::Rec;
 use gl_state::State;
 use gl_tokens::{Cap, GlError, MatrixMode, Query};
 
-/// What the record asks of the state. The record is Get or IsEnabled. InvalidEnum exactly where the first asks for a
+/// What the record asks of the state, and of what is bound. The record is Get or IsEnabled. InvalidEnum exactly where the first asks for a
 /// value that isn't answered, or the second for what is no capability; texturing is that of the active unit.
-pub fn answer(state: &State, rec: &Rec) -> Result<Values, GlError>
-    ensures { answered result ≡ answer_of state.now rec.now }
+pub fn answer(state: &State, bound: &Bound, rec: &Rec) -> Result<Values, GlError>
+    ensures { answered result ≡ answer_of state.now bound.now rec.now }
 {
     match rec {
         Rec::Get { query } => match Query::from_code(*query) {
-            Some(found) => match values(state, found) {
+            Some(found) => match values(state, bound, found) {
                 Some(values) => Ok(values),
                 None => Err(GlError::InvalidEnum),
             },
@@ -31,8 +32,8 @@ pub fn answer(state: &State, rec: &Rec) -> Result<Values, GlError>
 }
 
 /// What a query answers, subject by subject.
-fn values(state: &State, query: Query) -> Option<Values>
-    ensures { items_of result ≡ values_of state.now query }
+fn values(state: &State, bound: &Bound, query: Query) -> Option<Values>
+    ensures { items_of result ≡ values_of state.now bound.now query }
 {
     if let Some(values) = current(state, query) {
         return Some(values);
@@ -53,6 +54,9 @@ fn values(state: &State, query: Query) -> Option<Values>
         return Some(values);
     }
     if let Some(values) = pixels(state, query) {
+        return Some(values);
+    }
+    if let Some(values) = bindings(bound, query) {
         return Some(values);
     }
     limits(query)
@@ -167,6 +171,16 @@ fn pixels(state: &State, query: Query) -> Option<Values>
     match query {
         Query::UnpackAlignment => Some(code(u32::from(pixels.unpack.bytes()))),
         Query::PackAlignment => Some(code(u32::from(pixels.pack.bytes()))),
+        _ => None,
+    }
+}
+
+fn bindings(bound: &Bound, query: Query) -> Option<Values>
+    ensures { items_of result ≡ bindings_of bound.now query }
+{
+    match query {
+        Query::ArrayBufferBinding => Some(code(bound.array)),
+        Query::ElementArrayBufferBinding => Some(code(bound.element)),
         _ => None,
     }
 }

@@ -32,6 +32,14 @@ numbers values = flat_map (λ value. codes " " ++ signed_decimal value) values
 abbrev pub get_line : ℕ → List ℤ → List ℕ
 get_line index values = codes "get " ++ decimal index ++ numbers values ++ codes "\n"
 
+-- names, a space before each
+abbrev pub name_words : List ℕ → List ℕ
+name_words names = flat_map (λ name. codes " " ++ decimal name) names
+
+-- this record is given these names of objects
+abbrev pub names_line : ℕ → List ℕ → List ℕ
+names_line index names = codes "names " ++ decimal index ++ name_words names ++ codes "\n"
+
 -- the trace was read to its end; so many records stand before End
 abbrev pub end_line : ℕ → List ℕ
 end_line count = codes "end " ++ decimal count ++ codes "\n"

@@ -19,6 +19,6 @@ mod status;
 
 pub use fault::Fault;
 pub use header::frame_header;
-pub use lines::{append_error, append_get, append_raise, put_end, put_stop};
+pub use lines::{append_error, append_get, append_names, append_raise, put_end, put_stop};
 pub use output::put;
 pub use status::Status;

@@ -2,7 +2,7 @@
 ghost use Rattle.std.specs.Prelude.{◌≡◌, ◌≢◌, ◌/◌, ◌%◌, ◌<◌, ◌≤◌, ◌++◌, Err, IfOk, OnOk, OnErr};
 ghost use Rattle.outer_io.specs.Faults.{Rose};
 ghost use Rattle.output_format.specs.Answer.{Puts, Stops, stop_line};
-ghost use Rattle.output_format.specs.Log.{hex_digit as hex_digit_of, hex4 as hex4_of, raise_line as raise_line_of, error_line as error_line_of, get_line as get_line_of, numbers as numbers_of, end_line as end_line_of, refused_line as refused_line_of, cause_name};
+ghost use Rattle.output_format.specs.Log.{hex_digit as hex_digit_of, hex4 as hex4_of, raise_line as raise_line_of, error_line as error_line_of, get_line as get_line_of, numbers as numbers_of, name_words, names_line as names_line_of, end_line as end_line_of, refused_line as refused_line_of, cause_name};
 
 use crate::fault::Fault;
 use crate::output::put;
@@ -55,6 +55,21 @@ pub fn append_get(
     ensures memory { OnErr result (lines.new.items ≡ lines.old.items) }
 {
     let line = get_line(alloc, index, values)?;
+    lines.extend_from_slice(&line)
+}
+
+/// Appends `names INDEX NAME ..` to lines that wait: this record is given these names of objects. Where memory is out
+/// nothing is appended.
+pub fn append_names(
+    alloc: Global,
+    lines: &mut Vec<u8>,
+    index: u32,
+    names: &[u32],
+) -> Result<(), AllocError>
+    ensures line { OnOk result (lines.new.items ≡ lines.old.items ++ names_line_of index names.now) }
+    ensures memory { OnErr result (lines.new.items ≡ lines.old.items) }
+{
+    let line = names_line(alloc, index, names)?;
     lines.extend_from_slice(&line)
 }
 
@@ -130,6 +145,27 @@ fn append_numbers(line: &mut Vec<u8>, values: &[i64]) -> Result<(), AllocError>
     'numbers: for value in values {
         line.extend_from_slice(b" ")?;
         line.extend_from_slice(Buffer::new().format(*value).as_bytes())?;
+    }
+    Ok(())
+}
+
+fn names_line(alloc: Global, index: u32, names: &[u32]) -> Result<Vec<u8>, AllocError>
+    ensures { IfOk result (λ line. line.items ≡ names_line_of index names.now) }
+{
+    let mut line = Vec::from_slice(alloc, b"names ")?;
+    line.extend_from_slice(Buffer::new().format(index).as_bytes())?;
+    append_name_words(&mut line, names)?;
+    line.extend_from_slice(b"\n")?;
+    Ok(line)
+}
+
+/// Appends names, a space before each.
+fn append_name_words(line: &mut Vec<u8>, names: &[u32]) -> Result<(), AllocError>
+    ensures { OnOk result (line.new.items ≡ line.old.items ++ name_words names.now) }
+{
+    'names: for name in names {
+        line.extend_from_slice(b" ")?;
+        line.extend_from_slice(Buffer::new().format(*name).as_bytes())?;
     }
     Ok(())
 }

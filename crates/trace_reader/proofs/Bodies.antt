@@ -16,7 +16,7 @@ use Rattle.trace_reader.specs.declared.shape.Shape.{Shape}
 use Rattle.trace_reader.specs.declared.shape.Shape.TheVariants.{Exactly, AtLeast, Words}
 use Rattle.trace_reader.specs.Command.{Layout, with_words}
 use Rattle.trace_reader.specs.Numbers.{words as words_in}
-use Rattle.trace_reader.specs.Shape.{words_of, allows}
+use Rattle.trace_reader.specs.Shape.{words_of, has_piece, allows}
 use Rattle.trace_reader.specs.Steps.{length_checked, BehindRead, BodyRead}
 use Rattle.trace_reader.specs.Table.{row, with_piece, record_from}
 use Rattle.trace_reader.specs.Trace.{greatest_payload, greatest_trace, refused_if, body}
@@ -210,3 +210,10 @@ body_not_read (Some rest) (Some later) left offset head first taken into front n
     let begun = front_is head.length taken first into rest later (eqb taken first) least size within took end refl in
     let stopped_behind = subst (λ (own : List ℕ). BehindRead offset head.length shape own (eqb taken first) later (Err stop) left) same behind in
     body_err offset head n into rest later shape rec (eqb taken first) stop left given begun stopped_behind
+
+-- a list of words found no memory, and its row has a piece
+pub list_not_read : (known left : Option (List ℕ)) (offset : ℕ) (head : Head) (n : List ℕ) (shape : Shape) (rec : Rec) → with_words n (row head.opcode) ≡ Some (shape, rec) → has_piece shape ≡ true → IfSome known (λ rest. BodyRead offset head rest (Err NoMemory) left)
+list_not_read None left offset head n shape rec given piece = tt
+list_not_read (Some rest) left offset head n shape rec given piece =
+    let is = is_row head.opcode n _ shape rec refl given in
+    rw (is.found, is.shaped) piece

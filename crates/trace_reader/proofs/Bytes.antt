@@ -5,7 +5,7 @@ use Rattle.std.proofs.lemmas.List.FromFn.{get_or-map-range_with_len, length-map-
 use Rattle.byteorder.specs.Endian.{little_number, little_bytes}
 use Rattle.byteorder.specs.Numbers.{little_number-reads_back}
 use Rattle.trace_reader.specs.Numbers.{words}
-use Rattle.trace_reader.specs.Spelling.{AreWords, words_bytes}
+use Rattle.trace_reader.specs.Lists.{AreWords, words_bytes}
 
 -- word k of a payload
 abbrev word_at : List ℕ → ℕ → ℕ
@@ -16,7 +16,7 @@ length-words_bytes [] = refl
 length-words_bytes (n ∷ ns) = omega (arith, length-append (little_bytes 4 n) (words_bytes ns), length-words_bytes ns)
 
 -- word k of words that were written one after the other, before a piece
-word_at-words_bytes : (ns piece : List ℕ) (k : ℕ) → k < length ns → get_or ns k 0 < 256 ^ 4 → word_at (words_bytes ns ++ piece) k ≡ get_or ns k 0
+pub word_at-words_bytes : (ns piece : List ℕ) (k : ℕ) → k < length ns → get_or ns k 0 < 256 ^ 4 → word_at (words_bytes ns ++ piece) k ≡ get_or ns k 0
 word_at-words_bytes [] piece k within fits = absurd (omega arith)
 word_at-words_bytes (n ∷ ns) piece zero within fits = little_number-reads_back 4 n (words_bytes ns ++ piece) fits
 word_at-words_bytes (n ∷ ns) piece (suc k) within fits =

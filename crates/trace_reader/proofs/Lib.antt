@@ -2,6 +2,7 @@ pub mod Bodies
 pub mod Bytes
 pub mod Filled
 pub mod GivenBack
+pub mod Lists
 pub mod Outcomes
 pub mod Pieces
 pub mod SpelledBytes

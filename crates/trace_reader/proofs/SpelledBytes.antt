@@ -1,5 +1,5 @@
 -- What is spelled is bytes.
-use Rattle.std.proofs.Common.{◌<◌, ◌/◌, ◌^◌, ℕ, zero, suc, List, [], ◌∷◌, ◌++◌, length, All, lit<, arith}
+use Rattle.std.proofs.Common.{◌≡◌, ◌≤◌, ◌<◌, ◌/◌, ◌^◌, ℕ, zero, suc, List, [], ◌∷◌, ◌++◌, length, All, lit<, arith}
 use Rattle.std.specs.Prelude.{codes}
 use Rattle.std.specs.Int.{bytes_low_first}
 use Rattle.std.proofs.Math.Nat.{mod-lt}
@@ -8,7 +8,9 @@ use Rattle.byteorder.specs.Endian.{little_bytes}
 use Rattle.gl_records.specs.declared.rec.Rec.{Rec}
 use Rattle.gl_records.specs.declared.rec.Rec.TheVariants.{End}
 use Rattle.gl_records.specs.declared.size.Size.{Size}
-use Rattle.trace_reader.specs.Spelling.{words_bytes, spelling, payload, record_bytes, records_bytes, spell, IsPlain, Fits, IsBytes}
+use Rattle.trace_reader.specs.Command.{Command}
+use Rattle.trace_reader.specs.Lists.{AreWords, words_bytes}
+use Rattle.trace_reader.specs.Spelling.{spelling, payload, record_bytes, records_bytes, spell, IsPlain, IsWritable, Fits, IsBytes}
 
 abbrev IsByte : ℕ → Type 0
 IsByte byte = byte < 2 ^ 8
@@ -50,3 +52,11 @@ pub spell-bytes : (size : Size) (records : List Rec) → Fits size records → I
 spell-bytes size records fits =
     joined (codes "GLT1") (little_bytes 2 size.w ++ (little_bytes 2 size.h ++ records_bytes records)) magic-bytes
     (numbers_then 2 2 size.w size.h (records_bytes records) (records_bytes-bytes records fits.plain))
+
+-- words behind one another, and bytes behind them, are bytes
+pub listed-bytes : (list bytes : List ℕ) → IsBytes bytes → IsBytes (words_bytes list ++ bytes)
+listed-bytes list bytes each = joined (words_bytes list) bytes (words_bytes-bytes list) each
+
+pub writable : (command : Command) (opcode : ℕ) (words list bytes : List ℕ) → command ≡ record { opcode = opcode; words = words; piece = words_bytes list ++ bytes } → opcode < 2 ^ 16 → AreWords words → length words ≤ 16 → IsBytes bytes → IsWritable command
+writable command opcode words list bytes parts opcode_fits words_fit few each =
+    rw parts (record { opcode = opcode_fits; words = words_fit; few = few; piece = listed-bytes list bytes each })

@@ -15,7 +15,8 @@ use Rattle.trace_reader.specs.Command.{Layout, Command}
 use Rattle.trace_reader.specs.Numbers.{number_at, words}
 use Rattle.trace_reader.specs.Outcome.{IsTail}
 use Rattle.trace_reader.specs.Shape.{words_of, allows}
-use Rattle.trace_reader.specs.Spelling.{ReadsBack, spelling, words_bytes, payload, command_bytes, record_bytes, records_bytes, spell, IsPlain, Fits}
+use Rattle.trace_reader.specs.Lists.{words_bytes}
+use Rattle.trace_reader.specs.Spelling.{ReadsBack, spelling, payload, command_bytes, record_bytes, records_bytes, spell, IsPlain, Fits}
 use Rattle.trace_reader.specs.Table.{row, with_piece, record_from}
 use Rattle.trace_reader.specs.Trace.{Ended, Readable, head, body, record_of, record_at, header, is_side, trace_of, greatest_payload, greatest_trace}
 use Rattle.trace_reader.proofs.Bodies.{IsAllowed, body-passes}

@@ -1,4 +1,4 @@
--- Commands of the whole trace: its end, presenting the surface, the error flag, and queries. Opcodes 0x01 to 0x09.
+-- Commands of the whole trace: its end, presenting the surface, the error flag, and queries. Opcodes 0x01 to 0x07.
 use Rattle.std.specs.Prelude.{ℕ, ◌==◌, [], ◌∷◌, Option, Some, None, if◌then◌else◌}
 use Rattle.gl_records.specs.declared.rec.Rec.{Rec}
 use Rattle.gl_records.specs.declared.rec.Rec.TheVariants.{End, Swap, Flush, GetError, Get, IsEnabled}

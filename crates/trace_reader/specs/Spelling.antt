@@ -8,12 +8,14 @@ use Rattle.gl_records.specs.declared.size.Size.{Size}
 use Rattle.gl_records.specs.Size.{IsSize}
 use Rattle.trace_reader.specs.Arrays.{arrays_spelling}
 use Rattle.trace_reader.specs.Blending.{blending_spelling}
+use Rattle.trace_reader.specs.Buffers.{buffers_spelling}
 use Rattle.trace_reader.specs.Clears.{clears_spelling}
 use Rattle.trace_reader.specs.Command.{Command}
 use Rattle.trace_reader.specs.Control.{control_spelling}
 use Rattle.trace_reader.specs.Current.{current_spelling}
 use Rattle.trace_reader.specs.Environments.{environments_spelling}
 use Rattle.trace_reader.specs.Lighting.{lighting_spelling}
+use Rattle.trace_reader.specs.Lists.{AreWords, words_bytes}
 use Rattle.trace_reader.specs.Matrices.{matrices_spelling}
 use Rattle.trace_reader.specs.Pixels.{pixels_spelling}
 use Rattle.trace_reader.specs.Raster.{raster_spelling}
@@ -29,6 +31,7 @@ spelling rec =
     unwrap_or (control_spelling rec) (
     unwrap_or (arrays_spelling rec) (
     unwrap_or (current_spelling rec) (
+    unwrap_or (buffers_spelling rec) (
     unwrap_or (matrices_spelling rec) (
     unwrap_or (raster_spelling rec) (
     unwrap_or (switches_spelling rec) (
@@ -37,11 +40,7 @@ spelling rec =
     unwrap_or (blending_spelling rec) (
     unwrap_or (clears_spelling rec) (
     unwrap_or (environments_spelling rec) (
-    unwrap_or (pixels_spelling rec) (record { opcode = 0; words = []; piece = [] }))))))))))))
-
--- a list of words of 32 bits
-abbrev pub AreWords : List ℕ → Type 0
-AreWords words = All (λ word. word < 2 ^ 32) words
+    unwrap_or (pixels_spelling rec) (record { opcode = 0; words = []; piece = [] })))))))))))))
 
 -- a list of numbers that are bytes
 abbrev pub IsBytes : List ℕ → Type 0
@@ -65,10 +64,6 @@ pub record Gives (opcode : ℕ) (words piece : List ℕ) (rec : Rec) : Type 0 wh
 pub record ReadsBack (rec : Rec) (command : Command) : Type 0 where
   pub writable : IsWritable command
   pub gives : Gives command.opcode command.words command.piece rec
-
--- words of 32 bits, each the lowest byte first
-abbrev pub words_bytes : List ℕ → List ℕ
-words_bytes words = flat_map (λ word. little_bytes 4 word) words
 
 -- the words and the piece
 abbrev pub payload : Command → List ℕ

@@ -31,7 +31,7 @@ pub use spelled::{Spelled, spell};
 #[cfg(test)]
 mod tests {
     use super::*;
-    use gl_records::{Bytes, Rec};
+    use gl_records::{Bytes, Rec, Words};
     use std::test::Fail;
 
     #[test]
@@ -46,7 +46,9 @@ mod tests {
         let spelled = spell(&rec);
         assert_eq!(rt; spelled.opcode(), 0x11);
         assert_eq!(rt; spelled.words(), [3, 0x140C, 0xFFFF_FFFF, 2, 16].as_slice());
-        assert_eq!(rt; spelled.piece().len(), 0);
+        let (list, bytes) = spelled.piece();
+        assert_eq!(rt; list.len(), 0);
+        assert_eq!(rt; bytes.len(), 0);
     }
 
     #[test]
@@ -119,7 +121,23 @@ mod tests {
         let spelled = spell(&rec);
         assert_eq!(rt; spelled.opcode(), 0x10);
         assert_eq!(rt; spelled.words(), [5].as_slice());
-        assert_eq!(rt; spelled.piece(), [1, 2, 3].as_slice());
+        let (list, bytes) = spelled.piece();
+        assert_eq!(rt; list.len(), 0);
+        assert_eq!(rt; bytes, [1, 2, 3].as_slice());
+        Ok(())
+    }
+
+    #[test]
+    fn names_are_words_behind_no_others(rt: HostRuntime) -> Result<(), Fail> {
+        let rec = Rec::DeleteBuffers {
+            names: Words::new(vec![in rt.alloc(); 7, 0x0102_0304]?),
+        };
+        let spelled = spell(&rec);
+        assert_eq!(rt; spelled.opcode(), 0x21);
+        assert_eq!(rt; spelled.words().len(), 0);
+        let (list, bytes) = spelled.piece();
+        assert_eq!(rt; list, [7, 0x0102_0304].as_slice());
+        assert_eq!(rt; bytes.len(), 0);
         Ok(())
     }
 }

@@ -166,7 +166,10 @@ fn read_body<S: Source>(
     match row(alloc, opcode, &words) {
         Some((shape, rec)) => {
             match read_behind(alloc, offset, length, shape, front, whole, source) {
-                Ok(piece) => Ok((with_piece(rec, piece), 8 + length)),
+                Ok(piece) => match with_piece(alloc, rec, piece) {
+                    Ok(rec) => Ok((rec, 8 + length)),
+                    Err(_) => Err(Stop::NoMemory),
+                },
                 Err(stop) => Err(stop),
             }
         }

@@ -1,43 +1,47 @@
 //! A record as a trace has it.
-ghost use Rattle.std.specs.Prelude.{◌≡◌, ◌≤◌, length};
+ghost use Rattle.std.specs.Prelude.{◌≡◌, ◌≤◌, ◌++◌, [], length};
+ghost use Rattle.trace_reader.specs.Lists.{AreWords, words_bytes};
 ghost use Rattle.trace_reader.specs.Spelling.{Gives, IsWritable, ReadsBack, spelling as spelling_of};
 ghost use Rattle.trace_reader.specs.Table.{piece_of as record_piece};
 
 use crate::table::{
-    arrays, blending, clears, control, current, environments, fragment_tests, lighting, matrices,
-    piece_of, pixels, raster, switches,
+    arrays, blending, buffers, clears, control, current, environments, fragment_tests, lighting,
+    matrices, piece_of, pixels, raster, switches,
 };
 use crate::words::Words;
 use gl_records::Rec;
 use std::marker::Model;
 
-/// A command as it is written into a trace: its opcode, the words that its payload begins with, and the bytes
-/// behind them, which are lent by the record. Contracts see it as these three.
+/// A command as it is written into a trace: its opcode, the words that its payload begins with, and what stands
+/// behind them, a list of words and bytes, which are lent by the record. Contracts see it as the opcode, the words
+/// and the bytes of all that is behind them.
 #[derive(Drop)]
 pub struct Spelled<'a> {
     opcode: u16,
     words: Words,
     /// How many of the words are the payload's, at most 16.
     count: usize,
-    piece: &'a [u8],
+    list: &'a [u32],
+    bytes: &'a [u8],
 }
 
 impl<'a> Model for Spelled<'a> {
-    ghost use Rattle.std.specs.Prelude.{◌≤◌, take};
+    ghost use Rattle.std.specs.Prelude.{◌≤◌, ◌++◌, take};
     ghost use Rattle.trace_reader.specs.Command.{Command};
+    ghost use Rattle.trace_reader.specs.Lists.{words_bytes};
 
     ghost Value = { Command };
 
-    ghost view = { λ spelled. record { opcode = spelled.opcode; words = take spelled.count spelled.words; piece = spelled.piece.now } };
+    ghost view = { λ spelled. record { opcode = spelled.opcode; words = take spelled.count spelled.words; piece = words_bytes spelled.list.now ++ spelled.bytes.now } };
 
     ghost invariant = { λ spelled. spelled.count ≤ 16 };
 }
 
 impl<'a> Spelled<'a> {
-    /// A command of these words, at most 16, and of this piece.
-    fn of_parts(opcode: u16, front: &[u32], piece: &'a [u8]) -> Spelled<'a>
+    /// A command of these words, at most 16, of this list of words and of these bytes.
+    fn of_parts(opcode: u16, front: &[u32], list: &'a [u32], bytes: &'a [u8]) -> Spelled<'a>
         requires { length front.now ≤ 16 }
-        ensures parts { result ≡ record { opcode = opcode; words = front.now; piece = piece.now } }
+        ensures parts { result ≡ record { opcode = opcode; words = front.now; piece = words_bytes list.now ++ bytes.now } }
         ensures writable { IsWritable result }
     {
         let mut words = [0; 16];
@@ -46,7 +50,8 @@ impl<'a> Spelled<'a> {
             opcode,
             words,
             count: front.len(),
-            piece,
+            list,
+            bytes,
         }
     }
 
@@ -57,7 +62,18 @@ impl<'a> Spelled<'a> {
         ensures parts { result ≡ record { opcode = opcode; words = front.now; piece = record_piece rec.now } }
         ensures back { ReadsBack rec.now result }
     {
-        Spelled::of_parts(opcode, front, piece_of(rec))
+        let (list, bytes) = piece_of(rec);
+        Spelled::of_parts(opcode, front, list, bytes)
+    }
+
+    /// A record as a command of this opcode and of nothing but this list of words.
+    pub(crate) fn listed(rec: &'a Rec, opcode: u16, list: &'a [u32]) -> Spelled<'a>
+        requires piece { record_piece rec.now ≡ words_bytes list.now }
+        requires gives { AreWords list.now → Gives opcode [] (words_bytes list.now) rec.now }
+        ensures parts { result ≡ record { opcode = opcode; words = []; piece = words_bytes list.now } }
+        ensures back { ReadsBack rec.now result }
+    {
+        Spelled::of_parts(opcode, &[], list, b"")
     }
 
     /// The opcode.
@@ -74,11 +90,11 @@ impl<'a> Spelled<'a> {
         &self.words[..self.count]
     }
 
-    /// The bytes of the payload behind the words.
-    pub fn piece(&self) -> &[u8]
-        ensures { result.now ≡ self.now.piece }
+    /// What the payload has behind the words: a list of words, each of 32 bits, the lowest byte first, and bytes.
+    pub fn piece(&self) -> (&[u32], &[u8])
+        ensures { words_bytes result.0.now ++ result.1.now ≡ self.now.piece }
     {
-        self.piece
+        (self.list, self.bytes)
     }
 }
 
@@ -94,6 +110,9 @@ pub fn spell(rec: &Rec) -> Spelled<'_>
         return spelled;
     }
     if let Some(spelled) = current::spelling(rec) {
+        return spelled;
+    }
+    if let Some(spelled) = buffers::spelling(rec) {
         return spelled;
     }
     if let Some(spelled) = matrices::spelling(rec) {

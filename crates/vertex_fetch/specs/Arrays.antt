@@ -10,14 +10,17 @@ use Rattle.gl_tokens.specs.declared.texture_unit.TextureUnit.{TextureUnit}
 use Rattle.gl_tokens.specs.declared.texture_unit.TextureUnit.TheVariants.{Texture0, Texture1}
 use Rattle.gl_tokens.specs.declared.gl_error.GlError.{GlError}
 use Rattle.gl_tokens.specs.Commands.{done, known, ◌>>=◌}
+use Rattle.buffer_objects.specs.declared.buffer_key.BufferKey.{BufferKey}
+use Rattle.vertex_fetch.specs.Storage.{storage}
 use Rattle.vertex_fetch.specs.declared.arrays.Arrays.{Arrays}
+use Rattle.vertex_fetch.specs.declared.storage.Storage.TheVariants.{Region}
 use Rattle.vertex_fetch.specs.declared.vertex_array.VertexArray.{VertexArray}
 use Rattle.vertex_fetch.specs.declared.component_format.ComponentFormat.TheVariants.{Fixed}
 use Rattle.vertex_fetch.specs.Pointer.{Pointer, pointer, coordinate_pointer, normal_pointer, color_pointer}
 
 -- an array that is off, of so many GLfixed components, which begins where region 0 begins
 abbrev pub opening_array : ℕ → VertexArray
-opening_array size = record { pointer = pointer size Fixed 0 0 0; on = false }
+opening_array size = record { pointer = pointer size Fixed 0 (Region 0) 0; on = false }
 
 -- every array is off; normals have 3 components, all else has 4; the client's active unit is the first
 abbrev pub opening_arrays : Arrays
@@ -83,14 +86,15 @@ point arrays kind given = done arrays do
   pointer ← given
   Ok (with_pointer arrays kind pointer)
 
--- a command's arrays and its error; the other commands leave the arrays as they are
-abbrev pub with_command : Arrays → Rec → Arrays × Option GlError
-with_command arrays (VertexPointer size code stride region offset) = point arrays Vertex (coordinate_pointer size code stride region offset)
-with_command arrays (NormalPointer code stride region offset) = point arrays Normal (normal_pointer code stride region offset)
-with_command arrays (ColorPointer size code stride region offset) = point arrays Color (color_pointer size code stride region offset)
-with_command arrays (TexCoordPointer size code stride region offset) =
-    point arrays TextureCoord (coordinate_pointer size code stride region offset)
-with_command arrays (EnableClientState code) = client_state arrays code true
-with_command arrays (DisableClientState code) = client_state arrays code false
-with_command arrays (ClientActiveTexture texture) = client_active_texture arrays texture
-with_command arrays _ = (arrays, None)
+-- a command's arrays and its error, where this buffer object is bound to ARRAY_BUFFER; the other commands leave the
+-- arrays as they are
+abbrev pub with_command : Arrays → Option BufferKey → Rec → Arrays × Option GlError
+with_command arrays bound (VertexPointer size code stride region offset) = point arrays Vertex (coordinate_pointer size code stride (storage bound region) offset)
+with_command arrays bound (NormalPointer code stride region offset) = point arrays Normal (normal_pointer code stride (storage bound region) offset)
+with_command arrays bound (ColorPointer size code stride region offset) = point arrays Color (color_pointer size code stride (storage bound region) offset)
+with_command arrays bound (TexCoordPointer size code stride region offset) =
+    point arrays TextureCoord (coordinate_pointer size code stride (storage bound region) offset)
+with_command arrays bound (EnableClientState code) = client_state arrays code true
+with_command arrays bound (DisableClientState code) = client_state arrays code false
+with_command arrays bound (ClientActiveTexture texture) = client_active_texture arrays texture
+with_command arrays bound _ = (arrays, None)

@@ -4,3 +4,4 @@ pub mod Draws
 pub mod Fetch
 pub mod Pointer
 pub mod Regions
+pub mod Storage

@@ -3,7 +3,9 @@ ghost use Rattle.vertex_fetch.specs.Arrays.{opening_array, opening_arrays, array
 
 use crate::component_format::ComponentFormat;
 use crate::pointer::Pointer;
+use crate::storage::Storage;
 use crate::vertex_array::VertexArray;
+use buffer_objects::BufferKey;
 use gl_records::Rec;
 use gl_tokens::{ArrayKind, GlError, TextureUnit};
 
@@ -29,7 +31,7 @@ fn opening(size: u8) -> VertexArray
     ensures { result ≡ opening_array size }
 {
     VertexArray {
-        pointer: Pointer::new(size, ComponentFormat::Fixed, 0, 0, 0),
+        pointer: Pointer::new(size, ComponentFormat::Fixed, 0, Storage::Region(0), 0),
         on: false,
     }
 }
@@ -51,12 +53,14 @@ impl Arrays {
     }
 
     /// Runs VertexPointer, NormalPointer, ColorPointer, TexCoordPointer, EnableClientState, DisableClientState or
-    /// ClientActiveTexture; any other command changes nothing. The first error that holds is answered, and then
+    /// ClientActiveTexture; any other command changes nothing. `bound` is the buffer object that is bound to ARRAY_BUFFER:
+    /// a pointer keeps it, and only where there is none it names a client region. The first error that holds is answered, and then
     /// nothing is changed. Pointers: InvalidValue where the size isn't 2 to 4 (of colours 4), InvalidEnum where the
     /// type isn't BYTE, SHORT or FIXED (of colours UNSIGNED_BYTE or FIXED), InvalidValue where the stride is below 0,
-    /// InvalidValue where the region is above 15. The others: InvalidEnum where there is no such array or unit.
-    pub fn set(&mut self, rec: &Rec) -> Option<GlError>
-        ensures run { (self.new, result) ≡ with_command self.old rec.now }
+    /// InvalidValue where there is
+    /// no such client region. The others: InvalidEnum where there is no such array or unit.
+    pub fn set(&mut self, rec: &Rec, bound: Option<BufferKey>) -> Option<GlError>
+        ensures run { (self.new, result) ≡ with_command self.old bound rec.now }
         ensures unchanged { OnSome result (self.new ≡ self.old) }
     {
         match *rec {
@@ -68,7 +72,7 @@ impl Arrays {
                 offset,
             } => self.point(
                 ArrayKind::Vertex,
-                Pointer::of_coordinates(size, kind, stride, region, offset),
+                Pointer::of_coordinates(size, kind, stride, Storage::new(bound, region), offset),
             ),
             Rec::NormalPointer {
                 kind,
@@ -77,7 +81,7 @@ impl Arrays {
                 offset,
             } => self.point(
                 ArrayKind::Normal,
-                Pointer::of_normals(kind, stride, region, offset),
+                Pointer::of_normals(kind, stride, Storage::new(bound, region), offset),
             ),
             Rec::ColorPointer {
                 size,
@@ -87,7 +91,7 @@ impl Arrays {
                 offset,
             } => self.point(
                 ArrayKind::Color,
-                Pointer::of_colors(size, kind, stride, region, offset),
+                Pointer::of_colors(size, kind, stride, Storage::new(bound, region), offset),
             ),
             Rec::TexCoordPointer {
                 size,
@@ -97,7 +101,7 @@ impl Arrays {
                 offset,
             } => self.point(
                 ArrayKind::TextureCoord,
-                Pointer::of_coordinates(size, kind, stride, region, offset),
+                Pointer::of_coordinates(size, kind, stride, Storage::new(bound, region), offset),
             ),
             Rec::EnableClientState { array } => self.client_state(array, true),
             Rec::DisableClientState { array } => self.client_state(array, false),

@@ -3,7 +3,9 @@ ghost use Rattle.std.specs.Prelude.{◌≡◌, ◌+◌, ◌<ℤ◌, pos, unsigne
 ghost use Rattle.gl_tokens.specs.ComponentType.{from_code_of};
 ghost use Rattle.vertex_fetch.specs.Draws.{is_bad_count as is_bad_count_of, draw_arrays_error, draw_elements_error, draw_error as draw_error_of, vertex_count, HasVertex, listed as listed_of, index_of};
 
-use crate::regions::{LAST_REGION, Regions};
+use crate::regions::Regions;
+use crate::storage::Storage;
+use buffer_objects::{BufferKey, Buffers};
 use gl_records::{Rec, byte_at, short_at};
 use gl_tokens::{ComponentType, GlError, Mode};
 
@@ -13,9 +15,11 @@ const GREATEST_COUNT: i32 = 1 << 22;
 /// The first error of a draw that holds, or none. DrawArrays: InvalidEnum where there is no such mode, InvalidValue
 /// where the first vertex lies below 0, or their number below 0 or above 2^22. DrawElements: InvalidEnum where there
 /// is no such mode, InvalidValue where the number of vertices lies below 0 or above 2^22, InvalidEnum where the type
-/// isn't UNSIGNED_BYTE or UNSIGNED_SHORT, InvalidValue where the region is above 15. Other commands have none here.
-pub fn draw_error(rec: &Rec) -> Option<GlError>
-    ensures { result ≡ draw_error_of rec.now }
+/// isn't UNSIGNED_BYTE or UNSIGNED_SHORT, InvalidValue where there is no such client region. `element` is the buffer object
+/// that is bound to ELEMENT_ARRAY_BUFFER: indices lie in it, and only where there is none in a client region. Other
+/// commands have none here.
+pub fn draw_error(rec: &Rec, element: Option<BufferKey>) -> Option<GlError>
+    ensures { result ≡ draw_error_of element rec.now }
 {
     match *rec {
         Rec::DrawArrays { mode, first, count } => arrays_error(mode, first, count),
@@ -25,7 +29,7 @@ pub fn draw_error(rec: &Rec) -> Option<GlError>
             kind,
             region,
             ..
-        } => elements_error(mode, count, kind, region),
+        } => elements_error(mode, count, kind, Storage::new(element, region)),
         _ => None,
     }
 }
@@ -48,8 +52,8 @@ fn arrays_error(mode: u32, first: i32, count: i32) -> Option<GlError>
     None
 }
 
-fn elements_error(mode: u32, count: i32, kind: u32, region: u32) -> Option<GlError>
-    ensures { result ≡ draw_elements_error mode count kind region }
+fn elements_error(mode: u32, count: i32, kind: u32, indices: Storage) -> Option<GlError>
+    ensures { result ≡ draw_elements_error mode count kind indices }
 {
     if Mode::from_code(mode).is_none() {
         return Some(GlError::InvalidEnum);
@@ -61,18 +65,24 @@ fn elements_error(mode: u32, count: i32, kind: u32, region: u32) -> Option<GlErr
         Some(ComponentType::UnsignedByte | ComponentType::UnsignedShort) => {}
         _ => return Some(GlError::InvalidEnum),
     }
-    if region > LAST_REGION {
+    if indices.is_nowhere() {
         return Some(GlError::InvalidValue);
     }
     None
 }
 
 /// The element of the arrays that is vertex k of a draw: of DrawArrays the k-th from the first on, of DrawElements the
-/// k-th index. The record is one of the two without error, and k is below its number of vertices. A byte that lies
-/// outside of the region of the indices is 0.
-pub fn index_at(rec: &Rec, regions: &Regions, k: u32) -> u32
-    requires { HasVertex rec.now k }
-    ensures { result ≡ index_of rec.now regions.now k }
+/// k-th index. The record is one of the two without error, and k is below its number of vertices. `element` is
+/// the buffer object that is bound to ELEMENT_ARRAY_BUFFER. A byte that lies outside of what holds the indices is 0.
+pub fn index_at(
+    rec: &Rec,
+    element: Option<BufferKey>,
+    buffers: &Buffers,
+    regions: &Regions,
+    k: u32,
+) -> u32
+    requires { HasVertex element rec.now k }
+    ensures { result ≡ index_of rec.now element buffers.now regions.now k }
 {
     match *rec {
         Rec::DrawArrays { first, count, .. } => nth(first, count, k),
@@ -83,7 +93,7 @@ pub fn index_at(rec: &Rec, regions: &Regions, k: u32) -> u32
             ..
         } => listed(
             ComponentType::from_code(kind),
-            regions.bytes(region),
+            Storage::new(element, region).bytes(buffers, regions),
             offset,
             k,
         ),
@@ -100,7 +110,7 @@ fn nth(first: i32, count: i32, k: u32) -> u32
     first.unsigned_abs() + k
 }
 
-/// Index k of the indices that begin at this byte of a region.
+/// Index k of the indices that begin at this byte.
 fn listed(kind: Option<ComponentType>, bytes: &[u8], offset: u32, k: u32) -> u32
     ensures { result ≡ listed_of kind bytes.now offset k }
 {

@@ -3,7 +3,7 @@ ghost use Rattle.vertex_fetch.specs.Fetch.{spacing, element_start, component, th
 ghost use Rattle.vertex_fetch.specs.Pointer.{IsPointer, pointer, placed, coordinate_pointer, normal_pointer, color_pointer};
 
 use crate::component_format::ComponentFormat;
-use crate::regions::LAST_REGION;
+use crate::storage::Storage;
 use fx_arith::Fx;
 use gl_tokens::GlError;
 use std::marker::Model;
@@ -17,9 +17,9 @@ pub struct Pointer {
     format: ComponentFormat,
     /// The bytes from one element to the next, below 2^31; 0 where they follow one another.
     stride: u32,
-    /// The client region, 0 to 15.
-    region: u32,
-    /// The byte of the region at which element 0 begins.
+    /// What holds its bytes; a client region is one of 0 to 15.
+    storage: Storage,
+    /// The byte of the storage at which element 0 begins.
     offset: u32,
 }
 
@@ -32,7 +32,7 @@ impl Model for Pointer {
       size = array.size;
       format = array.format;
       stride = array.stride;
-      region = array.region;
+      storage = array.storage;
       offset = array.offset;
     } };
 
@@ -40,7 +40,7 @@ impl Model for Pointer {
       size = array.size;
       format = array.format;
       stride = array.stride;
-      region = array.region;
+      storage = array.storage;
       offset = array.offset;
     }) };
 
@@ -48,37 +48,43 @@ impl Model for Pointer {
       size = pointer.size;
       format = pointer.format;
       stride = pointer.stride;
-      region = pointer.region;
+      storage = pointer.storage;
       offset = pointer.offset;
     } };
 }
 
 impl Pointer {
-    /// `size` is up to 4, `stride` in bytes and below 2^31, `region` 0 to 15.
-    pub fn new(size: u8, format: ComponentFormat, stride: u32, region: u32, offset: u32) -> Pointer
-        requires { IsPointer (pointer size format stride region offset) }
-        ensures { result ≡ pointer size format stride region offset }
+    /// `size` is up to 4, `stride` in bytes and below 2^31, a client region one of 0 to 15.
+    pub fn new(
+        size: u8,
+        format: ComponentFormat,
+        stride: u32,
+        storage: Storage,
+        offset: u32,
+    ) -> Pointer
+        requires { IsPointer (pointer size format stride storage offset) }
+        ensures { result ≡ pointer size format stride storage offset }
     {
         Pointer {
             size,
             format,
             stride,
-            region,
+            storage,
             offset,
         }
     }
 
     /// The pointer of positions or of texture coordinates. The first error that holds: InvalidValue where the size
     /// isn't 2 to 4, InvalidEnum where the type isn't BYTE, SHORT or FIXED, InvalidValue where the stride is below
-    /// 0, InvalidValue where the region is above 15.
+    /// 0, InvalidValue where there is no such client region.
     pub fn of_coordinates(
         size: i32,
         code: u32,
         stride: i32,
-        region: u32,
+        storage: Storage,
         offset: u32,
     ) -> Result<Pointer, GlError>
-        ensures { result ≡ coordinate_pointer size code stride region offset }
+        ensures { result ≡ coordinate_pointer size code stride storage offset }
     {
         if size < 2 || 4 < size {
             return Err(GlError::InvalidValue);
@@ -86,17 +92,22 @@ impl Pointer {
         let Some(format) = ComponentFormat::of_coordinates(code) else {
             return Err(GlError::InvalidEnum);
         };
-        Pointer::placed(size.unsigned_abs() as u8, format, stride, region, offset)
+        Pointer::placed(size.unsigned_abs() as u8, format, stride, storage, offset)
     }
 
     /// The pointer of normals, which have three components. The errors are those of coordinates, but for the size.
-    pub fn of_normals(code: u32, stride: i32, region: u32, offset: u32) -> Result<Pointer, GlError>
-        ensures { result ≡ normal_pointer code stride region offset }
+    pub fn of_normals(
+        code: u32,
+        stride: i32,
+        storage: Storage,
+        offset: u32,
+    ) -> Result<Pointer, GlError>
+        ensures { result ≡ normal_pointer code stride storage offset }
     {
         let Some(format) = ComponentFormat::of_normals(code) else {
             return Err(GlError::InvalidEnum);
         };
-        Pointer::placed(3, format, stride, region, offset)
+        Pointer::placed(3, format, stride, storage, offset)
     }
 
     /// The pointer of colours. The errors are those of coordinates, but that the size is 4, and the type
@@ -105,10 +116,10 @@ impl Pointer {
         size: i32,
         code: u32,
         stride: i32,
-        region: u32,
+        storage: Storage,
         offset: u32,
     ) -> Result<Pointer, GlError>
-        ensures { result ≡ color_pointer size code stride region offset }
+        ensures { result ≡ color_pointer size code stride storage offset }
     {
         if size != 4 {
             return Err(GlError::InvalidValue);
@@ -116,35 +127,34 @@ impl Pointer {
         let Some(format) = ComponentFormat::of_colors(code) else {
             return Err(GlError::InvalidEnum);
         };
-        Pointer::placed(4, format, stride, region, offset)
+        Pointer::placed(4, format, stride, storage, offset)
     }
 
-    /// InvalidValue where the stride is below 0, or the region above 15.
+    /// InvalidValue where the stride is below 0, or there is no such client region.
     fn placed(
         size: u8,
         format: ComponentFormat,
         stride: i32,
-        region: u32,
+        storage: Storage,
         offset: u32,
     ) -> Result<Pointer, GlError>
         requires { size ≤ 4 }
-        ensures { result ≡ placed size format stride region offset }
+        ensures { result ≡ placed size format stride storage offset }
     {
         if stride < 0 {
             return Err(GlError::InvalidValue);
         }
-        if region > LAST_REGION {
+        if storage.is_nowhere() {
             return Err(GlError::InvalidValue);
         }
-        Ok(Pointer::new(size, format, stride.unsigned_abs(), region, offset))
+        Ok(Pointer::new(size, format, stride.unsigned_abs(), storage, offset))
     }
 
-    /// The client region, 0 to 15.
-    pub fn region(&self) -> u32
-        ensures value { result ≡ self.now.region }
-        ensures to { result ≤ 15 }
+    /// What holds its bytes.
+    pub(crate) fn storage(&self) -> Storage
+        ensures { result ≡ self.now.storage }
     {
-        self.region
+        self.storage
     }
 
     fn spacing(&self) -> u32
@@ -176,7 +186,7 @@ impl Pointer {
         }
     }
 
-    /// x y z of element k, read from its region's bytes.
+    /// x y z of element k, read from its storage's bytes.
     pub(crate) fn three(&self, bytes: &[u8], k: u32) -> [Fx; 3]
         ensures { result ≡ three_components self.now bytes.now (element_start self.now k) }
     {
@@ -188,7 +198,7 @@ impl Pointer {
         ]
     }
 
-    /// x y z w, s t r q or R G B A of element k, read from its region's bytes.
+    /// x y z w, s t r q or R G B A of element k, read from its storage's bytes.
     pub(crate) fn four(&self, bytes: &[u8], k: u32) -> [Fx; 4]
         ensures { result ≡ four_components self.now bytes.now (element_start self.now k) }
     {

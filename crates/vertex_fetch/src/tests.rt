@@ -1,6 +1,7 @@
 //! The arrays' formats, their commands and the indices of draws, in tables. What a number of bytes stands for was
 //! worked out apart from the program.
 use super::*;
+use buffer_objects::Buffers;
 use fx_arith::Fx;
 use gl_records::{Attribs, Bytes, Rec};
 use gl_tokens::{ArrayKind, GlError};
@@ -48,7 +49,7 @@ fn four(numbers: [i32; 4]) -> [Fx; 4] {
 fn run<R: Abort>(rt: &R, arrays: &mut Arrays, table: &[(Rec, Option<GlError>)]) {
     for (rec, error) in table {
         let before = *arrays;
-        assert_eq!(rt; arrays.set(rec), *error);
+        assert_eq!(rt; arrays.set(rec, None), *error);
         if error.is_some() {
             assert_eq!(rt; *arrays, before);
         }
@@ -58,6 +59,7 @@ fn run<R: Abort>(rt: &R, arrays: &mut Arrays, table: &[(Rec, Option<GlError>)]) 
 #[test]
 fn positions_and_texture_coordinates(rt: HostRuntime) -> Result<(), Fail> {
     let regions = regions(rt.alloc())?;
+    let buffers = Buffers::new(rt.alloc());
     // size, type, stride, offset, the element, and what it is
     let table = [
         (2, BYTE, 0, 1, 0, [-65536, 8323072, 0, 65536]),
@@ -75,8 +77,8 @@ fn positions_and_texture_coordinates(rt: HostRuntime) -> Result<(), Fail> {
         (3, FIXED, 0, 0, 1, [98303, 2, 0, 65536]),
     ];
     let mut arrays = Arrays::new();
-    arrays.set(&Rec::EnableClientState { array: 0x8074 });
-    arrays.set(&Rec::EnableClientState { array: 0x8078 });
+    arrays.set(&Rec::EnableClientState { array: 0x8074 }, None);
+    arrays.set(&Rec::EnableClientState { array: 0x8078 }, None);
     for (size, kind, stride, offset, k, want) in table {
         let region = 5;
         let position = Rec::VertexPointer {
@@ -93,9 +95,9 @@ fn positions_and_texture_coordinates(rt: HostRuntime) -> Result<(), Fail> {
             region,
             offset,
         };
-        assert_eq!(rt; arrays.set(&position), None);
-        assert_eq!(rt; arrays.set(&coordinates), None);
-        let vertex = fetch(&arrays, &regions, &CURRENT, k);
+        assert_eq!(rt; arrays.set(&position, None), None);
+        assert_eq!(rt; arrays.set(&coordinates, None), None);
+        let vertex = fetch(&arrays, &buffers, &regions, &CURRENT, k);
         let want = Attribs {
             pos: four(want),
             tex: [four(want), CURRENT.tex[1]],
@@ -109,6 +111,7 @@ fn positions_and_texture_coordinates(rt: HostRuntime) -> Result<(), Fail> {
 #[test]
 fn normals(rt: HostRuntime) -> Result<(), Fail> {
     let regions = regions(rt.alloc())?;
+    let buffers = Buffers::new(rt.alloc());
     // type, stride, offset, the element, and what it is
     let table = [
         (BYTE, 1, 0, 0, [-65536, -258, 65536]),
@@ -118,7 +121,7 @@ fn normals(rt: HostRuntime) -> Result<(), Fail> {
         (FIXED, 0, 2, 0, [-2147417985, 305463294, 2147450880]),
     ];
     let mut arrays = Arrays::new();
-    arrays.set(&Rec::EnableClientState { array: 0x8075 });
+    arrays.set(&Rec::EnableClientState { array: 0x8075 }, None);
     for (kind, stride, offset, k, want) in table {
         let region = 5;
         let pointer = Rec::NormalPointer {
@@ -127,13 +130,13 @@ fn normals(rt: HostRuntime) -> Result<(), Fail> {
             region,
             offset,
         };
-        assert_eq!(rt; arrays.set(&pointer), None);
+        assert_eq!(rt; arrays.set(&pointer, None), None);
         let want = Attribs {
             normal: want.map(Fx),
             ..CURRENT
         };
         assert_eq!(rt;
-            fetch(&arrays, &regions, &CURRENT, k),
+            fetch(&arrays, &buffers, &regions, &CURRENT, k),
             want,
             "{kind} at {offset}, element {k}"
         );
@@ -144,6 +147,7 @@ fn normals(rt: HostRuntime) -> Result<(), Fail> {
 #[test]
 fn colors(rt: HostRuntime) -> Result<(), Fail> {
     let regions = regions(rt.alloc())?;
+    let buffers = Buffers::new(rt.alloc());
     // type, stride, offset, the element, and what it is
     let table = [
         (UNSIGNED_BYTE, 0, 0, 0, [32896, 65536, 32639, 0]),
@@ -152,7 +156,7 @@ fn colors(rt: HostRuntime) -> Result<(), Fail> {
         (FIXED, 0, 3, 0, [-25165568, 1193215, 25165696, 512]),
     ];
     let mut arrays = Arrays::new();
-    arrays.set(&Rec::EnableClientState { array: 0x8076 });
+    arrays.set(&Rec::EnableClientState { array: 0x8076 }, None);
     for (kind, stride, offset, k, want) in table {
         let (size, region) = (4, 5);
         let pointer = Rec::ColorPointer {
@@ -162,13 +166,13 @@ fn colors(rt: HostRuntime) -> Result<(), Fail> {
             region,
             offset,
         };
-        assert_eq!(rt; arrays.set(&pointer), None);
+        assert_eq!(rt; arrays.set(&pointer, None), None);
         let want = Attribs {
             color: four(want),
             ..CURRENT
         };
         assert_eq!(rt;
-            fetch(&arrays, &regions, &CURRENT, k),
+            fetch(&arrays, &buffers, &regions, &CURRENT, k),
             want,
             "{kind} at {offset}, element {k}"
         );
@@ -179,8 +183,9 @@ fn colors(rt: HostRuntime) -> Result<(), Fail> {
 #[test]
 fn each_unit_has_its_own_coordinates(rt: HostRuntime) -> Result<(), Fail> {
     let regions = regions(rt.alloc())?;
+    let buffers = Buffers::new(rt.alloc());
     let mut arrays = Arrays::new();
-    assert_eq!(rt; fetch(&arrays, &regions, &CURRENT, 3), CURRENT);
+    assert_eq!(rt; fetch(&arrays, &buffers, &regions, &CURRENT, 3), CURRENT);
     let (kind, stride, region) = (BYTE, 0, 5);
     let table = [
         (Rec::ClientActiveTexture { texture: 0x84C1 }, None),
@@ -200,25 +205,25 @@ fn each_unit_has_its_own_coordinates(rt: HostRuntime) -> Result<(), Fail> {
     run(&rt, &mut arrays, &table);
     assert!(rt; arrays.enabled(ArrayKind::TextureCoord));
     let second = four([-65536, 8323072, 0, 65536]);
-    let vertex = fetch(&arrays, &regions, &CURRENT, 0);
+    let vertex = fetch(&arrays, &buffers, &regions, &CURRENT, 0);
     let want = Attribs {
         tex: [CURRENT.tex[0], second],
         ..CURRENT
     };
     assert_eq!(rt; vertex, want);
-    arrays.set(&Rec::ClientActiveTexture { texture: 0x84C0 });
+    arrays.set(&Rec::ClientActiveTexture { texture: 0x84C0 }, None);
     assert!(rt; !arrays.enabled(ArrayKind::TextureCoord));
     // the first unit's array lies as at the start, in a region with no bytes
-    arrays.set(&Rec::EnableClientState { array: 0x8078 });
-    let vertex = fetch(&arrays, &regions, &CURRENT, 0);
+    arrays.set(&Rec::EnableClientState { array: 0x8078 }, None);
+    let vertex = fetch(&arrays, &buffers, &regions, &CURRENT, 0);
     let want = Attribs {
         tex: [four([0, 0, 0, 0]), second],
         ..CURRENT
     };
     assert_eq!(rt; vertex, want);
-    arrays.set(&Rec::DisableClientState { array: 0x8078 });
+    arrays.set(&Rec::DisableClientState { array: 0x8078 }, None);
     assert!(rt; !arrays.enabled(ArrayKind::TextureCoord));
-    arrays.set(&Rec::ClientActiveTexture { texture: 0x84C1 });
+    arrays.set(&Rec::ClientActiveTexture { texture: 0x84C1 }, None);
     assert!(rt; arrays.enabled(ArrayKind::TextureCoord));
     Ok(())
 }
@@ -278,6 +283,7 @@ fn errors_in_their_order(rt: HostRuntime) {
 #[test]
 fn indices(rt: HostRuntime) -> Result<(), Fail> {
     let regions = regions(rt.alloc())?;
+    let buffers = Buffers::new(rt.alloc());
     let first = i32::MAX;
     let count = 1 << 22;
     let draw = Rec::DrawArrays {
@@ -285,8 +291,11 @@ fn indices(rt: HostRuntime) -> Result<(), Fail> {
         first,
         count,
     };
-    assert_eq!(rt; draw_error(&draw), None);
-    assert_eq!(rt; index_at(&draw, &regions, (1 << 22) - 1), 0x803F_FFFE);
+    assert_eq!(rt; draw_error(&draw, None), None);
+    assert_eq!(rt;
+        index_at(&draw, None, &buffers, &regions, (1 << 22) - 1),
+        0x803F_FFFE
+    );
     // type, offset, the vertex of the draw, and its index
     let table = [
         (UNSIGNED_BYTE, 0, 0, 0x80),
@@ -306,7 +315,7 @@ fn indices(rt: HostRuntime) -> Result<(), Fail> {
             offset,
         };
         assert_eq!(rt;
-            index_at(&draw, &regions, k),
+            index_at(&draw, None, &buffers, &regions, k),
             want,
             "{kind} at {offset}, vertex {k}"
         );
@@ -336,6 +345,6 @@ fn errors_of_draws(rt: HostRuntime) {
         (Rec::Swap, None),
     ];
     for (rec, error) in &table {
-        assert_eq!(rt; draw_error(rec), *error);
+        assert_eq!(rt; draw_error(rec, None), *error);
     }
 }

@@ -3,6 +3,7 @@ ghost use Rattle.vertex_fetch.specs.Fetch.{three_of, four_of};
 
 use crate::pointer::Pointer;
 use crate::regions::Regions;
+use buffer_objects::Buffers;
 use fx_arith::Fx;
 
 /// A vertex array: where it lies, and whether it is on.
@@ -15,11 +16,18 @@ pub struct VertexArray {
 impl VertexArray {
     /// Element k, where the array is on, else what is current.
     #[tactic(auto, unfolding(crate::specs::Fetch::three_of))]
-    pub(crate) fn three(&self, regions: &Regions, current: &[Fx; 3], k: u32) -> [Fx; 3]
-        ensures { result ≡ three_of self.now regions.now current.now k }
+    pub(crate) fn three(
+        &self,
+        buffers: &Buffers,
+        regions: &Regions,
+        current: &[Fx; 3],
+        k: u32,
+    ) -> [Fx; 3]
+        ensures { result ≡ three_of self.now buffers.now regions.now current.now k }
     {
         if self.on {
-            self.pointer.three(regions.bytes(self.pointer.region()), k)
+            self.pointer
+                .three(self.pointer.storage().bytes(buffers, regions), k)
         } else {
             *current
         }
@@ -27,11 +35,18 @@ impl VertexArray {
 
     /// The same of four components.
     #[tactic(auto, unfolding(crate::specs::Fetch::four_of))]
-    pub(crate) fn four(&self, regions: &Regions, current: &[Fx; 4], k: u32) -> [Fx; 4]
-        ensures { result ≡ four_of self.now regions.now current.now k }
+    pub(crate) fn four(
+        &self,
+        buffers: &Buffers,
+        regions: &Regions,
+        current: &[Fx; 4],
+        k: u32,
+    ) -> [Fx; 4]
+        ensures { result ≡ four_of self.now buffers.now regions.now current.now k }
     {
         if self.on {
-            self.pointer.four(regions.bytes(self.pointer.region()), k)
+            self.pointer
+                .four(self.pointer.storage().bytes(buffers, regions), k)
         } else {
             *current
         }

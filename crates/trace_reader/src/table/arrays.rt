@@ -1,7 +1,8 @@
 //! Commands of arrays: client regions, the arrays that lie in them, and draws.
-ghost use Rattle.std.specs.Prelude.{◌≡◌, ◌≤◌, IfSome};
+ghost use Rattle.std.specs.Prelude.{◌≡◌, ◌≤◌, true, IfSome};
 ghost use Rattle.trace_reader.specs.Arrays.{arrays_row, arrays_spelling};
-ghost use Rattle.trace_reader.specs.Shape.{words_of};
+ghost use Rattle.trace_reader.specs.Lists.{brings_list};
+ghost use Rattle.trace_reader.specs.Shape.{words_of, has_piece};
 ghost use Rattle.trace_reader.specs.Spelling.{ReadsBack};
 ghost use Rattle.trace_reader.specs.Command.{with_words};
 
@@ -15,6 +16,7 @@ use std::alloc::Global;
 pub fn row(alloc: Global, opcode: u16, n: &Words) -> Option<(Shape, Rec)>
     ensures row { result ≡ with_words n.now (arrays_row opcode) }
     ensures short { IfSome result (λ found. words_of found.0 ≤ 16) }
+    ensures listed { IfSome result (λ found. brings_list found.1 ≡ true → has_piece found.0 ≡ true) }
 {
     match opcode {
         0x10 => Some((

@@ -1,7 +1,8 @@
 //! Commands of texture environments.
-ghost use Rattle.std.specs.Prelude.{◌≡◌, ◌≤◌, IfSome};
+ghost use Rattle.std.specs.Prelude.{◌≡◌, ◌≤◌, true, IfSome};
 ghost use Rattle.trace_reader.specs.Environments.{environments_row, environments_spelling};
-ghost use Rattle.trace_reader.specs.Shape.{words_of};
+ghost use Rattle.trace_reader.specs.Lists.{brings_list};
+ghost use Rattle.trace_reader.specs.Shape.{words_of, has_piece};
 ghost use Rattle.trace_reader.specs.Spelling.{ReadsBack};
 ghost use Rattle.trace_reader.specs.Command.{with_words};
 
@@ -14,6 +15,7 @@ use gl_records::Rec;
 pub fn row(opcode: u16, n: &Words) -> Option<(Shape, Rec)>
     ensures row { result ≡ with_words n.now (environments_row opcode) }
     ensures short { IfSome result (λ found. words_of found.0 ≤ 16) }
+    ensures listed { IfSome result (λ found. brings_list found.1 ≡ true → has_piece found.0 ≡ true) }
 {
     match opcode {
         0x7A => Some((

@@ -1,7 +1,8 @@
-//! Commands of fog, of the lighting model and of the material.
-ghost use Rattle.std.specs.Prelude.{◌≡◌, ◌≤◌, IfSome};
+//! Commands of fog, of lights, of the lighting model and of the material.
+ghost use Rattle.std.specs.Prelude.{◌≡◌, ◌≤◌, true, IfSome};
 ghost use Rattle.trace_reader.specs.Lighting.{lighting_row, lighting_spelling};
-ghost use Rattle.trace_reader.specs.Shape.{words_of};
+ghost use Rattle.trace_reader.specs.Lists.{brings_list};
+ghost use Rattle.trace_reader.specs.Shape.{words_of, has_piece};
 ghost use Rattle.trace_reader.specs.Spelling.{ReadsBack};
 ghost use Rattle.trace_reader.specs.Command.{with_words};
 
@@ -14,6 +15,7 @@ use gl_records::Rec;
 pub fn row(opcode: u16, n: &Words) -> Option<(Shape, Rec)>
     ensures row { result ≡ with_words n.now (lighting_row opcode) }
     ensures short { IfSome result (λ found. words_of found.0 ≤ 16) }
+    ensures listed { IfSome result (λ found. brings_list found.1 ≡ true → has_piece found.0 ≡ true) }
 {
     match opcode {
         0x50 => Some((
@@ -21,6 +23,14 @@ pub fn row(opcode: u16, n: &Words) -> Option<(Shape, Rec)>
             Rec::Fogx {
                 parameter: n[0],
                 values: params(n, 1),
+            },
+        )),
+        0x52 => Some((
+            Shape::Exactly(6),
+            Rec::Lightx {
+                light: n[0],
+                parameter: n[1],
+                values: params(n, 2),
             },
         )),
         0x53 => Some((
@@ -52,6 +62,22 @@ pub fn spelling(rec: &Rec) -> Option<Spelled<'_>>
             rec,
             0x50,
             &[
+                *parameter,
+                fixed_word(&values.0),
+                fixed_word(&values.1),
+                fixed_word(&values.2),
+                fixed_word(&values.3),
+            ],
+        )),
+        Rec::Lightx {
+            light,
+            parameter,
+            values,
+        } => Some(Spelled::new(
+            rec,
+            0x52,
+            &[
+                *light,
                 *parameter,
                 fixed_word(&values.0),
                 fixed_word(&values.1),

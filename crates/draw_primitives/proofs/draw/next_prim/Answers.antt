@@ -2,7 +2,8 @@ use Rattle.std.proofs.Common.{◌≡◌, ◌∙◌, ◌++◌, ◌+◌, List, Som
 use Rattle.std.specs.Prelude.{is_some, option_to_list}
 use Rattle.gl_records.specs.declared.clip_vertex.ClipVertex.{ClipVertex}
 use Rattle.prim_assembly.specs.Primitives.{primitives}
-use Rattle.draw_primitives.specs.Draw.{Source, corners_of, kind_of, set_up_all}
+use Rattle.draw_primitives.specs.Draw.{corners_of, kind_of, set_up_all}
+use Rattle.draw_primitives.specs.Memory.{Source}
 use Rattle.draw_primitives.specs.Fan.{clipped, fan, set_up}
 use Rattle.draw_primitives.proofs.Left.{left-next}
 use Rattle.draw_primitives.proofs.draw.next_prim.Goals as goal
@@ -11,9 +12,9 @@ pub returns-in-Some-clause-prims : goal.returns-in-Some-clause-prims
 returns-in-Some-clause-prims c =
     let state = c.args.state.now in
     let kind = kind_of c.args.assembly.mode in
-    let source : Source = record { rec = c.args.rec.now; arrays = c.args.arrays.now; regions = c.args.regions.now } in
+    let source : Source = record { rec = c.args.rec.now; element = c.args.element; memory = c.args.memory.now } in
     let is : c.clipped-fan.result ≡ fan (clipped kind (is_some state.vertex.plane) (corners_of state source c.corners-numbers.result)) =
-    rw (← c.kind_of-kind.ensures, ← c.is_some-user.ensures, ← c.corners-corners.ensures) c.clipped-fan.ensures in
+    rw (← c.kind_of-kind.ensures, ← c.has_plane-user.ensures, ← c.corners-corners.ensures) c.clipped-fan.ensures in
     let made : set_up state.rules kind c.args.size c.clipped-fan.result ≡ option_to_list (Some c.in-Some.prim) ++ set_up state.rules kind c.args.size c.next.new.self =
     rw (← c.kind_of-kind.ensures) c.in-Some.ensures.prims in
     c.loop-k.invariant
@@ -24,9 +25,9 @@ loop-k-preserved c =
     let state = c.args.state.now in
     let kind = kind_of c.args.assembly.mode in
     let all = primitives c.args.assembly.mode c.args.assembly.amount in
-    let source : Source = record { rec = c.args.rec.now; arrays = c.args.arrays.now; regions = c.args.regions.now } in
+    let source : Source = record { rec = c.args.rec.now; element = c.args.element; memory = c.args.memory.now } in
     let is : c.clipped-fan.result ≡ fan (clipped kind (is_some state.vertex.plane) (corners_of state source c.corners-numbers.result)) =
-    rw (← c.kind_of-kind.ensures, ← c.is_some-user.ensures, ← c.corners-corners.ensures) c.clipped-fan.ensures in
+    rw (← c.kind_of-kind.ensures, ← c.has_plane-user.ensures, ← c.corners-corners.ensures) c.clipped-fan.ensures in
     let made : set_up state.rules kind c.args.size c.clipped-fan.result ≡ option_to_list None ++ set_up state.rules kind c.args.size c.next.new.self =
     rw (← c.kind_of-kind.ensures) c.in_default.ensures.prims in
     c.loop-k.invariant

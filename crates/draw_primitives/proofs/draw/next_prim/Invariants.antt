@@ -5,5 +5,5 @@ use Rattle.draw_primitives.proofs.draw.next_prim.Given as goal
 
 abbrev pub invariant-loop-k : goal.invariant-loop-k
 invariant-loop-k l =
-    set_up_all l.state (record { rec = l.rec; arrays = l.arrays; regions = l.regions }) l.size (kind_of l.assembly.mode) (drop l.fn.next (primitives l.assembly.mode l.assembly.amount))
-    ≡ set_up_all l.state (record { rec = l.rec; arrays = l.arrays; regions = l.regions }) l.size (kind_of l.assembly.mode) (drop l.k (primitives l.assembly.mode l.assembly.amount))
+    set_up_all l.state (record { rec = l.rec; element = l.element; memory = l.memory }) l.size (kind_of l.assembly.mode) (drop l.fn.next (primitives l.assembly.mode l.assembly.amount))
+    ≡ set_up_all l.state (record { rec = l.rec; element = l.element; memory = l.memory }) l.size (kind_of l.assembly.mode) (drop l.k (primitives l.assembly.mode l.assembly.amount))

@@ -9,10 +9,9 @@ pub returns-in-Some-clause-prims : goal.returns-in-Some-clause-prims
 returns-in-Some-clause-prims c =
     let inside = c.self.inside in
     let kind = kind_of inside.assembly.mode in
-    let arrays = c.args.arrays.now in
-    let regions = c.args.regions.now in
+    let memory = c.args.memory.now in
     let behind : List Primitive =
-    set_up_all inside.state (record { rec = inside.rec; arrays = arrays; regions = regions }) c.args.size kind (drop inside.next (primitives inside.assembly.mode inside.assembly.amount)) in
+    set_up_all inside.state (record { rec = inside.rec; element = inside.element; memory = memory }) c.args.size kind (drop inside.next (primitives inside.assembly.mode inside.assembly.amount)) in
     let made : set_up inside.state.rules kind c.args.size inside.fan ≡ c.in-Some.prim ∷ set_up inside.state.rules kind c.args.size c.next.new.self =
     rw (← c.kind_of-kind.ensures) c.in-Some.ensures.prims in
-    sym (ap (primitives_left arrays regions c.args.size) c.self.view_is) ∙ ap (λ (own : List Primitive). own ++ behind) made
+    sym (ap (primitives_left memory c.args.size) c.self.view_is) ∙ ap (λ (own : List Primitive). own ++ behind) made
