@@ -1,16 +1,16 @@
 -- What holds of the buffer objects goes on to hold.
-use Rattle.std.proofs.Common.{◌≡◌, ◌≢◌, ◌+◌, ◌<◌, ◌≤◌, ℕ, Bool, true, false, cond, eqb, List, [], length, Option, Some, None, IfSome, is_some, refl, sym, ap, subst, ◌∙◌, arith}
+use Rattle.std.proofs.Common.{◌≡◌, ◌≢◌, ◌+◌, ◌<◌, ◌≤◌, ℕ, ℤ, Bool, true, false, cond, eqb, List, [], length, Option, Some, None, IfSome, is_some, refl, sym, ap, subst, ◌∙◌, arith}
 use Rattle.std.specs.FinMap as map
 use Rattle.std.specs.Option.{option_map, unwrap_or}
 use Rattle.std.proofs.lemmas.Bool.{eqb-true, eq-eqb, false≢true}
 use Rattle.gl_tokens.specs.declared.buffer_target.BufferTarget.{BufferTarget}
 use Rattle.gl_tokens.specs.declared.buffer_target.BufferTarget.TheVariants.{Array, ElementArray}
-use Rattle.object_names.specs.Names.{LiveNames, object_at, free_names, with_names, size_or_0}
+use Rattle.object_names.specs.Names.{LiveNames, object_at, size_or_0}
 use Rattle.object_names.proofs.Objects.{object-empty, object-insert, object-remove}
 use Rattle.object_names.proofs.Totals.{total-empty, total-insert, total-remove}
-use Rattle.object_names.proofs.Fresh.{given_fresh, object-with_names, total-with_names}
+use Rattle.object_names.proofs.Behind.{object-behind, total-behind}
 use Rattle.buffer_objects.specs.Buffers.{BufferObjects, opening_buffers, key_at, with_key, live_bytes, most_bytes, object_size}
-use Rattle.buffer_objects.specs.Commands.{with_object, with_binding, with_bytes, without_name, unbound, unbound_key}
+use Rattle.buffer_objects.specs.Commands.{given_names, behind_names, with_object, with_binding, with_bytes, without_name, unbound, unbound_key}
 use Rattle.buffer_objects.specs.Kept.{IsKept, IsLive}
 use Rattle.buffer_objects.specs.declared.buffer_key.BufferKey.{BufferKey}
 use Rattle.buffer_objects.specs.declared.object.Object.{Object}
@@ -105,15 +105,15 @@ bound_object b name some = (
 )
 
 -- names are given
-abbrev pub with_given : BufferObjects → ℕ → BufferObjects
-with_given b count = record b { names = with_names b.names (free_names b.names count) }
+abbrev pub with_given : BufferObjects → ℤ → BufferObjects
+with_given b count = behind_names b (given_names b count)
 
-pub live_bytes-given : (b : BufferObjects) (count : ℕ) → live_bytes (with_given b count) ≡ live_bytes b
-live_bytes-given b count = total-with_names object_size b.names (free_names b.names count) (given_fresh b.names count)
+pub live_bytes-given : (b : BufferObjects) (count : ℤ) → live_bytes (with_given b count) ≡ live_bytes b
+live_bytes-given b count = total-behind object_size b.names count
 
-pub kept_given : (b : BufferObjects) (count : ℕ) → IsKept b → IsKept (with_given b count)
+pub kept_given : (b : BufferObjects) (count : ℤ) → IsKept b → IsKept (with_given b count)
 kept_given b count kept =
-    let same = λ (q : ℕ). object-with_names b.names (free_names b.names count) q (given_fresh b.names count) in
+    let same = λ (q : ℕ). object-behind b.names count q in
     record {
       bound = λ target. moved b (with_given b count) (key_at b.bindings target) (λ key live. ap (option_map (λ object. object.serial)) (same key.name) ∙ live) (kept.bound target);
       taken = λ q. subst (λ (o : Option Object). IfSome o (λ object. object.serial < b.made)) (sym (same q)) (kept.taken q);

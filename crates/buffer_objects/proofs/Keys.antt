@@ -1,18 +1,17 @@
 -- A key names one object for good.
-use Rattle.std.proofs.Common.{◌≡◌, ℕ, ℤ, Bool, true, false, cond, eqb, ◌&&◌, ◌||◌, List, [], ◌∷◌, Option, Some, None, Result, Ok, Err, is_some, refl, sym, ap, subst, ◌∙◌, nat_eq, is_ok, arith}
+use Rattle.std.proofs.Common.{◌≡◌, ℕ, ℤ, Bool, true, false, cond, eqb, ◌&&◌, ◌||◌, List, [], ◌∷◌, Option, Some, None, Result, Ok, is_some, refl, sym, ap, ◌∙◌, nat_eq, arith}
 use Rattle.std.specs.List.{list_any}
-use Rattle.std.specs.Result.{result_unwrap_or}
 use Rattle.std.specs.Option.{option_map}
 use Rattle.std.proofs.lemmas.Bool.{eqb-true, false≢true}
 use Rattle.gl_tokens.specs.BufferTarget as target
 use Rattle.gl_tokens.specs.Commands.{done, known, unless, ◌>>=◌}
 use Rattle.gl_tokens.specs.declared.buffer_target.BufferTarget.{BufferTarget}
 use Rattle.gl_tokens.specs.declared.gl_error.GlError.{GlError}
-use Rattle.object_names.specs.Names.{object_at, free_names, with_names}
-use Rattle.object_names.proofs.Fresh.{given_fresh, object-with_names}
+use Rattle.object_names.specs.Names.{object_at}
+use Rattle.object_names.proofs.Behind.{object-behind}
 use Rattle.object_names.proofs.Objects.{object-insert, object-remove}
 use Rattle.buffer_objects.specs.Buffers.{BufferObjects, bytes_in, bytes_of}
-use Rattle.buffer_objects.specs.Commands.{allowed_count, given_names, behind_names, bind, named, with_binding, with_object, with_bytes, without_name, without_names}
+use Rattle.buffer_objects.specs.Commands.{given_names, behind_names, bind, named, with_binding, with_object, with_bytes, without_name, without_names}
 use Rattle.buffer_objects.specs.Kept.{IsLive, KeepsBytes, NoneComesBack, is_same}
 use Rattle.buffer_objects.specs.declared.buffer_key.BufferKey.{BufferKey}
 use Rattle.buffer_objects.specs.declared.object.Object.{Object}
@@ -29,20 +28,10 @@ alike_live : (old new : BufferObjects) → Alike old new → NoneComesBack old n
 alike_live old new same key given live = ap (option_map (λ object. object.serial)) (sym (same key.name)) ∙ live
 
 -- GenBuffers
-names_alike : (b : BufferObjects) (answer : Result (List ℕ) GlError) → ((given : List ℕ) → answer ≡ Ok given → (count : ℕ) × (given ≡ free_names b.names count)) → Alike b (behind_names b answer)
-names_alike b (Ok given) free q =
-    let which = free given refl in
-    subst (λ (names : List ℕ). object_at (with_names b.names names) q ≡ object_at b.names q) (sym which.1) (object-with_names b.names (free_names b.names which.0) q (given_fresh b.names which.0))
-names_alike b (Err error) free q = refl
-
-behind_count : (b : BufferObjects) (count : Result ℕ GlError) (given : List ℕ) → (count >>= (λ allowed. Ok (free_names b.names allowed))) ≡ Ok given → (allowed : ℕ) × (given ≡ free_names b.names allowed)
-behind_count b (Ok allowed) given is = (allowed, ap (λ (r : Result (List ℕ) GlError). result_unwrap_or r []) (sym is))
-behind_count b (Err error) given is = absurd (false≢true (ap is_ok is))
-
 pub names_both : (b : BufferObjects) (count : ℤ) → KeepsBytes b (behind_names b (given_names b count)) × NoneComesBack b (behind_names b (given_names b count))
 names_both b count =
     let new = behind_names b (given_names b count) in
-    let alike = names_alike b (given_names b count) (λ given is. behind_count b (allowed_count b count) given is) in
+    let alike : Alike b new = λ q. object-behind b.names count q in
     (alike_keeps b new alike, alike_live b new alike)
 
 pick : {A : Type 0} (b : Bool) (x y z : A) → (b ≡ true → x ≡ z) → (b ≡ false → y ≡ z) → cond b x y ≡ z

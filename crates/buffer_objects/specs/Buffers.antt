@@ -33,10 +33,6 @@ buffers_code =
     code_by (LiveNames Object × (Bindings × ℕ)) (coded× (map.code {R = nat_cmp} coded_ℕ (coded_option object_code)) (coded× bindings_code coded_ℕ))
     (λ b. (b.names, (b.bindings, b.made))) (λ p. record { names = p.0; bindings = p.1.0; made = p.1.1 }) (λ _. refl)
 
--- so many names may be live
-abbrev pub most_names : ℕ
-most_names = 65536
-
 -- so many bytes may be live: 2^26
 abbrev pub most_bytes : ℕ
 most_bytes = 67108864

@@ -1,6 +1,6 @@
 -- The commands on buffer objects, with their errors in order (OpenGL ES 1.1.12, 2.9; OpenGL 1.5, 2.9). The limits on names
 -- and bytes are this project's.
-use Rattle.std.specs.Prelude.{ℕ, ◌+◌, ◌-◌, ◌==◌, nat_lt, ℤ, pos, int_lt, nat_abs, Bool, not, ◌||◌, ◌&&◌, List, [], ◌++◌, length, take, drop, replicate, Option, Some, None, Result, Ok, Err, if◌then◌else◌}
+use Rattle.std.specs.Prelude.{ℕ, ◌+◌, ◌-◌, ◌==◌, nat_lt, ℤ, pos, int_lt, nat_abs, Bool, ◌||◌, List, [], ◌++◌, length, take, drop, replicate, Option, Some, None, Result, Ok, Err, if◌then◌else◌}
 use Rattle.std.specs.FinMap as map
 use Rattle.std.specs.List.{fold}
 use Rattle.gl_tokens.specs.BufferTarget as target
@@ -9,32 +9,20 @@ use Rattle.gl_tokens.specs.Commands.{done, known, unless, ◌>>=◌}
 use Rattle.gl_tokens.specs.declared.buffer_target.BufferTarget.{BufferTarget}
 use Rattle.gl_tokens.specs.declared.gl_error.GlError.{GlError}
 use Rattle.gl_tokens.specs.declared.gl_error.GlError.TheVariants.{InvalidValue, InvalidOperation, OutOfMemory}
-use Rattle.object_names.specs.Names.{object_at, free_names, with_names}
-use Rattle.buffer_objects.specs.Buffers.{BufferObjects, most_names, most_bytes, key_at, with_key, bytes_of, live_bytes}
+use Rattle.object_names.specs.Giving as giving
+use Rattle.object_names.specs.Names.{object_at}
+use Rattle.buffer_objects.specs.Buffers.{BufferObjects, most_bytes, key_at, with_key, bytes_of, live_bytes}
 use Rattle.buffer_objects.specs.declared.bindings.Bindings.{Bindings}
 use Rattle.buffer_objects.specs.declared.buffer_key.BufferKey.{BufferKey}
 use Rattle.buffer_objects.specs.declared.object.Object.{Object}
 
--- the names that GenBuffers gives: the least that aren't live
-abbrev pub names_for : BufferObjects → ℕ → List ℕ
-names_for buffers count = free_names buffers.names count
-
--- how many names GenBuffers gives, or the error
-abbrev pub allowed_count : BufferObjects → ℤ → Result ℕ GlError
-allowed_count buffers count =
-    unless (int_lt count (pos 0) || int_lt (pos most_names) count) InvalidValue
-    (unless (nat_lt most_names (map.len buffers.names + nat_abs count)) OutOfMemory (Ok (nat_abs count)))
-
 -- GenBuffers: the names, or the error
 abbrev pub given_names : BufferObjects → ℤ → Result (List ℕ) GlError
-given_names buffers count = do
-  allowed ← allowed_count buffers count
-  Ok (names_for buffers allowed)
+given_names buffers count = giving.given_names buffers.names count
 
 -- the state behind it: the names are live, and stand for no object yet
 abbrev pub behind_names : BufferObjects → Result (List ℕ) GlError → BufferObjects
-behind_names buffers (Ok names) = record buffers { names = with_names buffers.names names }
-behind_names buffers (Err error) = buffers
+behind_names buffers given = record buffers { names = giving.behind_names buffers.names given }
 
 -- an object with no bytes is made under this name
 abbrev pub with_object : BufferObjects → ℕ → BufferObjects
@@ -47,7 +35,7 @@ with_binding buffers target key = record buffers { bindings = with_key buffers.b
 abbrev pub named : BufferObjects → BufferTarget → ℕ → Option Object → Result BufferObjects GlError
 named buffers target name (Some object) = Ok (with_binding buffers target (Some (record { name = name; serial = object.serial })))
 named buffers target name None =
-    unless (not (map.contains_key buffers.names name) && nat_lt most_names (map.len buffers.names + 1)) OutOfMemory
+    unless (giving.lacks_room buffers.names name) OutOfMemory
     (Ok (with_binding (with_object buffers name) target (Some (record { name = name; serial = buffers.made }))))
 
 -- BindBuffer

@@ -4,7 +4,7 @@ ghost use Rattle.std.specs.Result.{result_map_both};
 ghost use Rattle.gl_tokens.specs.BufferTarget.{from_code_of};
 ghost use Rattle.gl_tokens.specs.declared.buffer_target.BufferTarget.{BufferTarget};
 ghost use Rattle.buffer_objects.specs.Buffers.{opening_buffers, binding as binding_of, bound_at, bound_name, bytes_of, is_buffer as is_buffer_of};
-ghost use Rattle.buffer_objects.specs.Commands.{allowed_count as allowed_count_of, given_names, behind_names, bind as bind_of, data_key as data_key_of, data_of, sub_key as sub_key_of, sub_data, with_bytes, is_past_bytes, without_name, without_names, sized as sized_of, spliced as spliced_of};
+ghost use Rattle.buffer_objects.specs.Commands.{given_names, behind_names, bind as bind_of, data_key as data_key_of, data_of, sub_key as sub_key_of, sub_data, with_bytes, is_past_bytes, without_name, without_names, sized as sized_of, spliced as spliced_of};
 ghost use Rattle.buffer_objects.specs.Kept.{IsLive};
 
 use crate::bindings::Bindings;
@@ -16,9 +16,6 @@ use gl_tokens::{BufferTarget, BufferUsage, GlError};
 use object_names::Names;
 use std::alloc::{AllocError, Global};
 use std::marker::Model;
-
-/// So many names may be live, and be asked for at once.
-const MOST_NAMES: usize = 65536;
 
 /// So many bytes may be live: 2^26.
 const MOST_BYTES: usize = 67108864;
@@ -120,39 +117,15 @@ impl Buffers {
         ensures run { OnOk result (self.new ≡ behind_names self.old (given_names self.old count)) }
         ensures unchanged { OnErr result (self.new ≡ self.old) }
     {
-        let count = match self.allowed_count(count) {
-            Ok(count) => count,
-            Err(error) => return Ok(Err(error)),
-        };
-        let names = self.names.make(count)?;
-        Ok(Ok(names))
+        let names = self.names.make_names(count)?;
+        Ok(names)
     }
 
     /// The names that GenBuffers would give, or its error.
     pub fn names_for(&self, count: i32) -> Result<Result<Vec<u32>, GlError>, AllocError>
         ensures { IfOk result (λ answer. result_map_both (λ names. names.items) (λ error. error) answer ≡ given_names self.now count) }
     {
-        let count = match self.allowed_count(count) {
-            Ok(count) => count,
-            Err(error) => return Ok(Err(error)),
-        };
-        let names = self.names.free(count)?;
-        Ok(Ok(names))
-    }
-
-    /// How many names GenBuffers gives, or its error.
-    fn allowed_count(&self, count: i32) -> Result<u32, GlError>
-        ensures value { result ≡ allowed_count_of self.now count }
-        ensures few { IfOk result (λ count. count + map.len self.now.names < 2 ^ 32) }
-    {
-        if count < 0 || count > MOST_NAMES as i32 {
-            return Err(GlError::InvalidValue);
-        }
-        let count = count.unsigned_abs();
-        if self.names.len() + count as usize > MOST_NAMES {
-            return Err(GlError::OutOfMemory);
-        }
-        Ok(count)
+        self.names.names_for(count)
     }
 
     /// Runs BindBuffer: with 0 nothing is bound to the target from now on, else the object that the name stands for;
@@ -174,7 +147,7 @@ impl Buffers {
             self.bindings.put(target, Some(BufferKey { name, serial }));
             return Ok(None);
         }
-        if !self.names.is_live(name) && self.names.len() >= MOST_NAMES {
+        if self.names.lacks_room(name) {
             return Ok(Some(GlError::OutOfMemory));
         }
         let serial = self.made;

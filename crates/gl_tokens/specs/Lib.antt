@@ -32,6 +32,8 @@ pub mod Query
 pub mod ShadeModel
 pub mod StencilOp
 pub mod TexelType
+pub mod TextureParameter
+pub mod TextureTarget
 pub mod TextureUnit
 pub mod Winding
 pub mod Wrap

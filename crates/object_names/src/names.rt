@@ -1,12 +1,18 @@
 ghost use Rattle.std.specs.Prelude.{◌≡◌, ◌≤◌, ◌<◌, ◌+◌, ◌^◌, Some, None, IsTrue, IfOk, OnOk, OnErr, length, vec_len};
+ghost use Rattle.std.specs.Result.{result_map_both};
+ghost use Rattle.object_names.specs.Giving.{allowed_count as allowed_count_of, behind_names, given_names, lacks_room as lacks_room_for};
 ghost use Rattle.std.specs.FinMap as map;
 ghost use Rattle.std.specs.HashMap.{spare};
 ghost use Rattle.std.specs.Option.{option_copied};
 ghost use Rattle.object_names.specs.Names.{object_at, free_names, with_names};
 
+use gl_tokens::GlError;
 use std::alloc::{AllocError, Global};
 use std::collections::HashMap;
 use std::marker::Model;
+
+/// So many names may be live, and be asked for at once.
+const MOST_NAMES: usize = 65536;
 
 /// The live names of one kind, and the objects that they stand for.
 #[derive(Drop)]
@@ -92,6 +98,56 @@ impl<V: Drop> Names<V> {
         ensures new { self.new ≡ map.remove self.old name }
     {
         self.table.remove(&name).flatten()
+    }
+
+    /// The names that a command gives which asks for so many, the least that aren't live, or its error. InvalidValue where
+    /// the count is below 0 or above 65536; OutOfMemory where more than 65536 names would be live.
+    pub fn names_for(&self, count: i32) -> Result<Result<Vec<u32>, GlError>, AllocError>
+        ensures { IfOk result (λ answer. result_map_both (λ names. names.items) (λ error. error) answer ≡ given_names self.now count) }
+    {
+        let count = match self.allowed_count(count) {
+            Ok(count) => count,
+            Err(error) => return Ok(Err(error)),
+        };
+        let names = self.free(count)?;
+        Ok(Ok(names))
+    }
+
+    /// Gives the names of [`Names::names_for`]: they are live from now on, and stand for no object yet. With an error, and
+    /// where memory is out, nothing is changed.
+    pub fn make_names(&mut self, count: i32) -> Result<Result<Vec<u32>, GlError>, AllocError>
+        ensures names { IfOk result (λ answer. result_map_both (λ names. names.items) (λ error. error) answer ≡ given_names self.old count) }
+        ensures live { OnOk result (self.new ≡ behind_names self.old (given_names self.old count)) }
+        ensures unchanged { OnErr result (self.new ≡ self.old) }
+    {
+        let count = match self.allowed_count(count) {
+            Ok(count) => count,
+            Err(error) => return Ok(Err(error)),
+        };
+        let names = self.make(count)?;
+        Ok(Ok(names))
+    }
+
+    /// Whether a name isn't live and can't become it, since 65536 others are.
+    pub fn lacks_room(&self, name: u32) -> bool
+        ensures { result ≡ lacks_room_for self.now name }
+    {
+        !self.is_live(name) && self.len() >= MOST_NAMES
+    }
+
+    /// How many names a command gives that asks for so many, or its error.
+    fn allowed_count(&self, count: i32) -> Result<u32, GlError>
+        ensures value { result ≡ allowed_count_of self.now count }
+        ensures few { IfOk result (λ count. count + map.len self.now < 2 ^ 32) }
+    {
+        if count < 0 || count > MOST_NAMES as i32 {
+            return Err(GlError::InvalidValue);
+        }
+        let count = count.unsigned_abs();
+        if self.len() + count as usize > MOST_NAMES {
+            return Err(GlError::OutOfMemory);
+        }
+        Ok(count)
     }
 
     /// The least names above 0 that aren't live, so many, in rising order.
