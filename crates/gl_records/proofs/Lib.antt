@@ -1,3 +1,4 @@
+pub mod Captures
 pub mod Completes
 pub mod Drawings
 pub mod Lines

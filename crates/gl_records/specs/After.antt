@@ -10,8 +10,8 @@ use Rattle.gl_records.specs.Scissor.{scissor_holds}
 
 -- pixel (x, y) after one item
 abbrev pub step : Captured → ℕ → ℕ → Pixel → Pixel
-step (Draw prim state) x y pixel =
-    if covers prim (pos x) (pos y) && scissor_holds state.scissor x y then draw_step prim state x y pixel else pixel
+step (Draw prim state first second) x y pixel =
+    if covers prim (pos x) (pos y) && scissor_holds state.scissor x y then draw_step prim state first second x y pixel else pixel
 step (Clear clear) x y pixel = if holds clear.area x y then clear_step clear pixel else pixel
 
 -- pixel (x, y) after the items in their order

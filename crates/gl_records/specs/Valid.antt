@@ -1,6 +1,8 @@
 -- Which primitives set-up hands to the rasteriser, and which Clears there are (this project's profile).
-use Rattle.std.specs.Prelude.{ℕ, pos, negsuc, ◌≤ℤ◌, ◌<ℤ◌, ◌^◌, ◌<◌, ◌≤◌, Bool, ◌||◌, IsTrue, is_some}
+use Rattle.std.specs.Prelude.{ℕ, pos, negsuc, ◌≤ℤ◌, ◌<ℤ◌, ◌^◌, ◌<◌, ◌≤◌, Bool, ◌||◌, IsTrue, Option, is_some}
 use Rattle.gl_records.specs.declared.clear.ClearItem.{ClearItem}
+use Rattle.gl_records.specs.declared.frag_state.FragState.{FragState}
+use Rattle.gl_records.specs.declared.level.ImageSet.{ImageSet}
 use Rattle.gl_records.specs.declared.pixel_box.PixelBox.{PixelBox}
 use Rattle.gl_records.specs.declared.prim.Primitive.{Primitive}
 use Rattle.gl_records.specs.declared.prim.PrimKind.{PrimKind}
@@ -10,6 +12,7 @@ use Rattle.gl_records.specs.declared.size.Size.{Size}
 use Rattle.gl_records.specs.Captured.{Captured, Draw, Clear}
 use Rattle.gl_records.specs.Coverage.{corner, covers}
 use Rattle.gl_records.specs.PixelBox.{holds}
+use Rattle.gl_records.specs.Shading.{AreReadable}
 
 -- a corner's numbers are those that some viewport and some polygon offset give
 pub record IsCornerInRange (v : VertexOut) : Type 0 where
@@ -59,7 +62,12 @@ pub record IsValidClear (clear : ClearItem) (size : Size) : Type 0 where
   pub area : IsBoxOf size clear.area
   pub part : IsTrue (has_part clear)
 
+-- the primitive can be drawn on a surface of this size with these images
+pub record IsValidDraw (p : Primitive) (state : FragState) (first second : Option ImageSet) (size : Size) : Type 0 where
+  pub primitive : IsValid p size
+  pub images : AreReadable state first second
+
 -- an item that a surface of this size can take
 abbrev pub IsDrawable : Captured → Size → Type 0
-IsDrawable (Draw prim state) size = IsValid prim size
+IsDrawable (Draw prim state first second) size = IsValidDraw prim state first second size
 IsDrawable (Clear clear) size = IsValidClear clear size

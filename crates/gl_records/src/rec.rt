@@ -28,6 +28,10 @@ pub enum Rec {
     IsBuffer {
         name: u32,
     },
+    /// Whether a name is that of a texture object is answered (OpenGL ES 1.1.12, 6.1.4).
+    IsTexture {
+        name: u32,
+    },
     /// A client region holds these bytes from now on, and no others. Arrays are read from regions.
     ClientBytes {
         region: u32,
@@ -363,6 +367,65 @@ pub enum Rec {
     /// Clears the buffers that the mask names: colour 0x4000, depth 0x0100, stencil 0x0400.
     Clear {
         mask: u32,
+    },
+    /// So many names of texture objects are given, the least that aren't live (OpenGL ES 1.1.12, 3.7.11).
+    GenTextures {
+        count: i32,
+    },
+    /// These names, and the texture objects that they name, are gone (OpenGL ES 1.1.12, 3.7.11).
+    DeleteTextures {
+        names: Words,
+    },
+    /// The texture object that the active unit and commands of images speak of from here on; name 0 is an object of
+    /// its own, the same for all units (OpenGL ES 1.1.12, 3.7.11).
+    BindTexture {
+        target: u32,
+        name: u32,
+    },
+    /// A parameter of the bound texture: a filter, how coordinates wrap, or whether smaller levels are made of level 0
+    /// (OpenGL ES 1.1.12, 3.7.4).
+    TexParameterx {
+        target: u32,
+        parameter: u32,
+        value: u32,
+    },
+    /// A level of the bound texture's image is given anew: its number, the format it is kept in, its sides in texels,
+    /// its border, and the format and the type of the piece's texels (OpenGL ES 1.1.12, 3.7.1).
+    TexImage2D {
+        target: u32,
+        level: i32,
+        internal: u32,
+        width: i32,
+        height: i32,
+        border: i32,
+        format: u32,
+        kind: u32,
+        piece: Bytes,
+    },
+    /// A box of texels of a level, by its column and row and its sides, is replaced by those of the piece
+    /// (OpenGL ES 1.1.12, 3.7.2).
+    TexSubImage2D {
+        target: u32,
+        level: i32,
+        x: i32,
+        y: i32,
+        width: i32,
+        height: i32,
+        format: u32,
+        kind: u32,
+        piece: Bytes,
+    },
+    /// Levels of the bound texture's image, from 0 to `-level`, are given anew by a palette and indices into it, `size`
+    /// bytes in all (OpenGL ES 1.1.12, 3.7.3; OES_compressed_paletted_texture).
+    CompressedTexImage2D {
+        target: u32,
+        level: i32,
+        internal: u32,
+        width: i32,
+        height: i32,
+        border: i32,
+        size: i32,
+        piece: Bytes,
     },
     /// A parameter of the active unit's texture environment (OpenGL ES 1.1.12, 3.7.12).
     TexEnvx {

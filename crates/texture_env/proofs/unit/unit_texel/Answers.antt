@@ -1,0 +1,10 @@
+use Rattle.std.proofs.Common.{◌∙◌}
+use Rattle.texture_env.proofs.UnitTexels.{texel-is}
+use Rattle.texture_env.proofs.unit.unit_texel.Goals as goal
+
+pub returns : goal.returns
+returns c x y shares =
+    let here = c.coordinates_at-here.ensures x y shares in
+    c.texel.ensures
+    ∙ texel-is c.args.unit.now c.args.set.now c.args.prim.now c.args.k x y c.coordinates_at-here.result c.asked_rho-rho.result here
+    (c.asked_rho-rho.ensures x y shares here)

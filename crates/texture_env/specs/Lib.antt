@@ -1,0 +1,4 @@
+pub mod Combining
+pub mod Coordinates
+pub mod Mean
+pub mod Shares
