@@ -186,7 +186,7 @@ making-end first old levels n rest making none =
 
 -- ---- the bytes that the levels count
 
-sums-same : (levels : ℕ → Option Level) (bytes : ℕ → ℕ) (ks : List ℕ) → ((k : ℕ) → level_bytes (levels k) ≡ bytes k)
+pub sums-same : (levels : ℕ → Option Level) (bytes : ℕ → ℕ) (ks : List ℕ) → ((k : ℕ) → level_bytes (levels k) ≡ bytes k)
     → sum_by level_bytes (map levels ks) ≡ sum (map bytes ks)
 sums-same levels bytes [] same = refl
 sums-same levels bytes (k ∷ ks) same =

@@ -94,7 +94,8 @@ fn bytes_then(set: &ImageSet, w: u16, h: u16, k: u8) -> u128
 /// The bytes that the levels behind level 0 count for limits once they are made, where level 0 is `w` by `h`: those
 /// that are made, and those behind them that stay.
 pub fn bytes_behind(set: &ImageSet, w: u16, h: u16) -> u128
-    ensures { result ≡ bytes_behind set.now w h }
+    ensures value { result ≡ bytes_behind set.now w h }
+    ensures most { result < 2 ^ 70 }
 {
     let mut bytes = 0;
     for before in 0..10 {

@@ -9,8 +9,8 @@ use gl_records::{Level, Texels};
 use gl_tokens::PaletteFormat;
 use std::alloc::{AllocError, Global};
 
-/// A side of a level: halved so many times, but never from something to nothing.
-fn level_side(side: u16, level: u8) -> u16
+/// A side of a level with a palette: that of level 0 halved so many times, but never from something to nothing.
+pub fn level_side(side: u16, level: u8) -> u16
     ensures { result ≡ level_side side level }
 {
     let halved = if level < 16 { side >> level } else { 0 };

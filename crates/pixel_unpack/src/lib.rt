@@ -19,7 +19,7 @@ mod levels;
 mod palette;
 
 pub use image::unpack;
-pub use levels::{palette_size, unpack_palette};
+pub use levels::{level_side, palette_size, unpack_palette};
 
 #[cfg(test)]
 mod tests;

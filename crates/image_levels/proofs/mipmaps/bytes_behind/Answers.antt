@@ -16,9 +16,9 @@ loop-before-preserved c =
       most = omega (arith, c.loop-before.invariant.most, c.bytes_then-bytes.ensures.most);
     }
 
-pub returns : goal.returns
+pub returns-clause-value : goal.returns-clause-value
 unfolding bytes_behind
-returns c =
+returns-clause-value c =
     let last : c.loop-before.before ≡ 10 = omega (arith, c.loop-before-test.false, c.loop-before.auto.before-end) in
     c.loop-before.invariant.so_far
     ∙ ap (λ (n : ℕ). sum (map (λ k. bytes_then c.args.set.now.levels c.args.w c.args.h k) (range_with_len 1 n))) last

@@ -1,0 +1,4 @@
+pub mod Asked
+pub mod Bytes
+pub mod Prepared
+pub mod Written
