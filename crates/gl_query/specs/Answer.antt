@@ -1,5 +1,5 @@
 -- What Get and IsEnabled answer of the state and of what is bound, each value as it is kept (OpenGL ES 1.1.12, 6.1 and 6.2).
-use Rattle.std.specs.Prelude.{ℤ, pos, List, [], ◌∷◌, length, map, Option, Some, None, Result, Ok, Err}
+use Rattle.std.specs.Prelude.{ℤ, pos, List, [], ◌∷◌, length, map, slice_index, Option, Some, None, Result, Ok, Err}
 use Rattle.gl_records.specs.declared.rec.Rec.{Rec}
 use Rattle.gl_records.specs.declared.rec.Rec.TheVariants.{Get, IsEnabled}
 use Rattle.gl_state.specs.declared.state.State.{State}
@@ -23,7 +23,7 @@ use Rattle.gl_tokens.specs.declared.gl_error.GlError.{GlError}
 use Rattle.gl_tokens.specs.declared.gl_error.GlError.TheVariants.{InvalidEnum}
 use Rattle.gl_tokens.specs.declared.matrix_mode.MatrixMode.TheVariants.{Modelview, Projection, Texture}
 use Rattle.gl_tokens.specs.declared.query.Query.{Query}
-use Rattle.gl_tokens.specs.declared.query.Query.TheVariants.{CurrentColor, CurrentNormal, CurrentTextureCoords, PointSize, LineWidth, CullFaceMode, FrontFace, ShadeModel, DepthRange, DepthWriteMask, DepthClearValue, DepthFunc, StencilClearValue, StencilFunc, StencilValueMask, StencilFail, StencilPassDepthFail, StencilPassDepthPass, StencilRef, StencilWriteMask, MatrixMode, Viewport, ModelviewStackDepth, ProjectionStackDepth, TextureStackDepth, ModelviewMatrix, ProjectionMatrix, TextureMatrix, AlphaTestFunc, AlphaTestRef, BlendDst, BlendSrc, LogicOpMode, ScissorBox, ColorClearValue, ColorWriteMask, UnpackAlignment, PackAlignment, MaxLights, MaxClipPlanes, MaxTextureSize, MaxModelviewStackDepth, MaxProjectionStackDepth, MaxTextureStackDepth, MaxViewportDims, SubpixelBits, RedBits, GreenBits, BlueBits, AlphaBits, DepthBits, StencilBits, ActiveTexture, ClientActiveTexture, MaxTextureUnits, ArrayBufferBinding, ElementArrayBufferBinding}
+use Rattle.gl_tokens.specs.declared.query.Query.TheVariants.{CurrentColor, CurrentNormal, CurrentTextureCoords, PointSize, LineWidth, CullFaceMode, FrontFace, ShadeModel, DepthRange, DepthWriteMask, DepthClearValue, DepthFunc, StencilClearValue, StencilFunc, StencilValueMask, StencilFail, StencilPassDepthFail, StencilPassDepthPass, StencilRef, StencilWriteMask, MatrixMode, Viewport, ModelviewStackDepth, ProjectionStackDepth, TextureStackDepth, ModelviewMatrix, ProjectionMatrix, TextureMatrix, AlphaTestFunc, AlphaTestRef, BlendDst, BlendSrc, LogicOpMode, ScissorBox, ColorClearValue, ColorWriteMask, UnpackAlignment, PackAlignment, MaxLights, MaxClipPlanes, MaxTextureSize, MaxModelviewStackDepth, MaxProjectionStackDepth, MaxTextureStackDepth, MaxViewportDims, SubpixelBits, RedBits, GreenBits, BlueBits, AlphaBits, DepthBits, StencilBits, ActiveTexture, ClientActiveTexture, MaxTextureUnits, TextureBinding2D, ArrayBufferBinding, ElementArrayBufferBinding}
 use Rattle.matrix_stacks.specs.Stack.{top}
 use Rattle.matrix_stacks.specs.Stacks.{stack_of}
 use Rattle.gl_query.specs.declared.bound.Bound.{Bound}
@@ -97,11 +97,12 @@ pixels s UnpackAlignment = Some (code (bytes_of s.pixels.unpack))
 pixels s PackAlignment = Some (code (bytes_of s.pixels.pack))
 pixels s query = None
 
--- the names of what is bound
-abbrev pub bindings : Bound → Query → Option (List ℤ)
-bindings bound ArrayBufferBinding = Some (code bound.array)
-bindings bound ElementArrayBufferBinding = Some (code bound.element)
-bindings bound query = None
+-- the names of what is bound; the texture is that of the active unit
+abbrev pub bindings : State → Bound → Query → Option (List ℤ)
+bindings s bound TextureBinding2D = Some (code (slice_index bound.textures (unit_number s.current.unit)))
+bindings s bound ArrayBufferBinding = Some (code bound.array)
+bindings s bound ElementArrayBufferBinding = Some (code bound.element)
+bindings s bound query = None
 
 -- limits (this project's profile)
 abbrev pub limits : Query → Option (List ℤ)
@@ -127,11 +128,11 @@ abbrev pub or : Option (List ℤ) → Option (List ℤ) → Option (List ℤ)
 or (Some values) later = Some values
 or None later = later
 
--- what a query answers; the bound texture is no query yet
+-- what a query answers
 abbrev pub values_of : State → Bound → Query → Option (List ℤ)
 values_of s bound query =
     or (current s query) (or (matrices s query) (or (raster s query) (or (tests s query) (or (blending s query) (or (clears s query)
-    (or (pixels s query) (or (bindings bound query) (limits query))))))))
+    (or (pixels s query) (or (bindings s bound query) (limits query))))))))
 
 -- Get: InvalidEnum where there is no such query. IsEnabled: InvalidEnum where there is no such capability.
 abbrev pub answer_of : State → Bound → Rec → Result (List ℤ) GlError

@@ -5,4 +5,6 @@ pub struct Bound {
     pub array: u32,
     /// The buffer object that indices are read from.
     pub element: u32,
+    /// The texture object of each unit.
+    pub textures: [u32; 2],
 }

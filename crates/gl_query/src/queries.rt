@@ -1,4 +1,4 @@
-ghost use Rattle.std.specs.Prelude.{◌≡◌};
+ghost use Rattle.std.specs.Prelude.{◌≡◌, ◌≤◌, slice_index};
 ghost use Rattle.gl_query.specs.Answer.{current as current_of, matrices as matrices_of, raster as raster_of, tests as tests_of, blending as blending_of, clears as clears_of, pixels as pixels_of, bindings as bindings_of, limits as limits_of, values_of, answer_of};
 ghost use Rattle.gl_query.specs.Values.{items_of, answered};
 
@@ -56,7 +56,7 @@ fn values(state: &State, bound: &Bound, query: Query) -> Option<Values>
     if let Some(values) = pixels(state, query) {
         return Some(values);
     }
-    if let Some(values) = bindings(bound, query) {
+    if let Some(values) = bindings(state, bound, query) {
         return Some(values);
     }
     limits(query)
@@ -175,14 +175,23 @@ fn pixels(state: &State, query: Query) -> Option<Values>
     }
 }
 
-fn bindings(bound: &Bound, query: Query) -> Option<Values>
-    ensures { items_of result ≡ bindings_of bound.now query }
+fn bindings(state: &State, bound: &Bound, query: Query) -> Option<Values>
+    ensures { items_of result ≡ bindings_of state.now bound.now query }
 {
     match query {
+        Query::TextureBinding2D => Some(code(of_unit(bound.textures, state.unit()))),
         Query::ArrayBufferBinding => Some(code(bound.array)),
         Query::ElementArrayBufferBinding => Some(code(bound.element)),
         _ => None,
     }
+}
+
+/// The name that a unit has.
+fn of_unit(names: [u32; 2], unit: u8) -> u32
+    requires { unit ≤ 1 }
+    ensures { result ≡ slice_index names unit }
+{
+    names[usize::from(unit)]
 }
 
 fn limits(query: Query) -> Option<Values>

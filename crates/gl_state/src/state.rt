@@ -278,6 +278,7 @@ impl State {
             | Rec::Get { .. }
             | Rec::IsEnabled { .. }
             | Rec::IsBuffer { .. }
+            | Rec::IsTexture { .. }
             | Rec::ClientBytes { .. }
             | Rec::VertexPointer { .. }
             | Rec::NormalPointer { .. }
@@ -292,6 +293,13 @@ impl State {
             | Rec::BindBuffer { .. }
             | Rec::BufferData { .. }
             | Rec::BufferSubData { .. }
+            | Rec::GenTextures { .. }
+            | Rec::DeleteTextures { .. }
+            | Rec::BindTexture { .. }
+            | Rec::TexParameterx { .. }
+            | Rec::TexImage2D { .. }
+            | Rec::TexSubImage2D { .. }
+            | Rec::CompressedTexImage2D { .. }
             | Rec::SampleCoveragex { .. }
             | Rec::Clear { .. } => None,
         }

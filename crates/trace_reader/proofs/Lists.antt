@@ -4,7 +4,7 @@ use Rattle.std.proofs.lemmas.List.{same_lists, get_or_default, drop-append-le, a
 use Rattle.std.proofs.lemmas.List.FromFn.{get_or-map-range_with_len, length-map-range_with_len}
 use Rattle.byteorder.specs.Endian.{little_number, IsRead}
 use Rattle.byteorder.specs.Numbers.{little_from-append}
-use Rattle.gl_records.specs.declared.rec.Rec.TheVariants.{DeleteBuffers}
+use Rattle.gl_records.specs.declared.rec.Rec.TheVariants.{DeleteBuffers, DeleteTextures}
 use Rattle.trace_reader.specs.Lists.{AreWords, words_bytes, words_from}
 use Rattle.trace_reader.specs.Spelling.{Gives}
 use Rattle.trace_reader.proofs.Bytes.{word_at-words_bytes, length-words_bytes}
@@ -48,6 +48,9 @@ whole_words words = omega (arith, length-words_bytes words)
 
 pub given_buffers : (names : List ℕ) → AreWords names → Gives 0x21 [] (words_bytes names) (DeleteBuffers names)
 given_buffers names fits = record { made = (refl, ap (λ (rest : ℕ). eqb rest 0) (whole_words names), λ later. ap DeleteBuffers (words_from-words_bytes names fits)) }
+
+pub given_textures : (names : List ℕ) → AreWords names → Gives 0x71 [] (words_bytes names) (DeleteTextures names)
+given_textures names fits = record { made = (refl, ap (λ (rest : ℕ). eqb rest 0) (whole_words names), λ later. ap DeleteTextures (words_from-words_bytes names fits)) }
 
 -- a bound of each place is one of all elements
 pub all_below : (bound : ℕ) (xs : List ℕ) → ((k : ℕ) → get_or xs k 0 < bound) → All (λ x. x < bound) xs

@@ -3,7 +3,7 @@ use Rattle.std.specs.Prelude.{ℕ, ◌*◌, ◌/◌, ◌<◌, ◌^◌, Bool, tru
 use Rattle.std.specs.List.{flat_map, range_with_len}
 use Rattle.byteorder.specs.Endian.{little_bytes, little_number}
 use Rattle.gl_records.specs.declared.rec.Rec.{Rec}
-use Rattle.gl_records.specs.declared.rec.Rec.TheVariants.{DeleteBuffers}
+use Rattle.gl_records.specs.declared.rec.Rec.TheVariants.{DeleteBuffers, DeleteTextures}
 
 -- a list of words of 32 bits
 abbrev pub AreWords : List ℕ → Type 0
@@ -20,4 +20,5 @@ words_from bytes = map (λ k. little_number 4 (drop (4 * k) bytes)) (range_with_
 -- a list of words makes up the record's payload
 abbrev pub brings_list : Rec → Bool
 brings_list (DeleteBuffers names) = true
+brings_list (DeleteTextures names) = true
 brings_list rec = false

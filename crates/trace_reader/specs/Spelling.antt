@@ -22,6 +22,7 @@ use Rattle.trace_reader.specs.Raster.{raster_spelling}
 use Rattle.trace_reader.specs.Shape.{words_of, allows}
 use Rattle.trace_reader.specs.Switches.{switches_spelling}
 use Rattle.trace_reader.specs.Table.{row, with_piece}
+use Rattle.trace_reader.specs.Textures.{textures_spelling}
 use Rattle.trace_reader.specs.FragmentTests.{fragment_tests_spelling}
 use Rattle.trace_reader.specs.Trace.{greatest_payload, greatest_trace}
 
@@ -39,8 +40,9 @@ spelling rec =
     unwrap_or (fragment_tests_spelling rec) (
     unwrap_or (blending_spelling rec) (
     unwrap_or (clears_spelling rec) (
+    unwrap_or (textures_spelling rec) (
     unwrap_or (environments_spelling rec) (
-    unwrap_or (pixels_spelling rec) (record { opcode = 0; words = []; piece = [] })))))))))))))
+    unwrap_or (pixels_spelling rec) (record { opcode = 0; words = []; piece = [] }))))))))))))))
 
 -- a list of numbers that are bytes
 abbrev pub IsBytes : List ℕ → Type 0

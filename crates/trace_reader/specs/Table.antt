@@ -1,7 +1,7 @@
 -- The table of commands: opcode, length of the payload, and the fields as the payload has them.
 use Rattle.std.specs.Prelude.{ℕ, ◌*◌, nat_lt, List, [], drop, Option, if◌then◌else◌}
 use Rattle.gl_records.specs.declared.rec.Rec.{Rec}
-use Rattle.gl_records.specs.declared.rec.Rec.TheVariants.{ClientBytes, DeleteBuffers, BufferData, BufferSubData}
+use Rattle.gl_records.specs.declared.rec.Rec.TheVariants.{ClientBytes, DeleteBuffers, BufferData, BufferSubData, DeleteTextures, TexImage2D, TexSubImage2D, CompressedTexImage2D}
 use Rattle.trace_reader.specs.Arrays.{arrays_row}
 use Rattle.trace_reader.specs.Blending.{blending_row}
 use Rattle.trace_reader.specs.Buffers.{buffers_row}
@@ -18,13 +18,15 @@ use Rattle.trace_reader.specs.Pixels.{pixels_row}
 use Rattle.trace_reader.specs.Raster.{raster_row}
 use Rattle.trace_reader.specs.Shape.{words_of}
 use Rattle.trace_reader.specs.Switches.{switches_row}
+use Rattle.trace_reader.specs.Textures.{textures_row}
 use Rattle.trace_reader.specs.FragmentTests.{fragment_tests_row}
 
 -- the row of an opcode, a band of opcodes after the other; each band has one group of commands
 abbrev pub row : ℕ → Option Layout
 row opcode =
     if nat_lt opcode 0x08 then control_row opcode else
-    if nat_lt opcode 0x10 then buffers_row opcode else
+    if nat_lt opcode 0x09 then buffers_row opcode else
+    if nat_lt opcode 0x10 then textures_row opcode else
     if nat_lt opcode 0x18 then arrays_row opcode else
     if nat_lt opcode 0x1D then current_row opcode else
     if nat_lt opcode 0x20 then arrays_row opcode else
@@ -36,7 +38,8 @@ row opcode =
     if nat_lt opcode 0x5E then fragment_tests_row opcode else
     if nat_lt opcode 0x61 then blending_row opcode else
     if nat_lt opcode 0x62 then fragment_tests_row opcode else
-    if nat_lt opcode 0x7A then clears_row opcode else
+    if nat_lt opcode 0x70 then clears_row opcode else
+    if nat_lt opcode 0x7A then textures_row opcode else
     if nat_lt opcode 0x7B then environments_row opcode else pixels_row opcode
 
 -- the record with this piece, where it has one. A list of words is made of its bytes here.
@@ -45,6 +48,13 @@ with_piece piece (ClientBytes region _) = ClientBytes region piece
 with_piece piece (DeleteBuffers _) = DeleteBuffers (words_from piece)
 with_piece piece (BufferData target usage size _) = BufferData target usage size piece
 with_piece piece (BufferSubData target offset size _) = BufferSubData target offset size piece
+with_piece piece (DeleteTextures _) = DeleteTextures (words_from piece)
+with_piece piece (TexImage2D target level internal width height border format kind _) =
+    TexImage2D target level internal width height border format kind piece
+with_piece piece (TexSubImage2D target level x y width height format kind _) =
+    TexSubImage2D target level x y width height format kind piece
+with_piece piece (CompressedTexImage2D target level internal width height border size _) =
+    CompressedTexImage2D target level internal width height border size piece
 with_piece piece rec = rec
 
 -- the piece of a record, and no bytes where it has none
@@ -53,6 +63,10 @@ piece_of (ClientBytes region piece) = piece
 piece_of (DeleteBuffers names) = words_bytes names
 piece_of (BufferData target usage size piece) = piece
 piece_of (BufferSubData target offset size piece) = piece
+piece_of (DeleteTextures names) = words_bytes names
+piece_of (TexImage2D target level internal width height border format kind piece) = piece
+piece_of (TexSubImage2D target level x y width height format kind piece) = piece
+piece_of (CompressedTexImage2D target level internal width height border size piece) = piece
 piece_of rec = []
 
 -- the record that a payload makes: of its first sixteen words, zeros past its end, and of the bytes behind the

@@ -140,4 +140,63 @@ mod tests {
         assert_eq!(rt; bytes.len(), 0);
         Ok(())
     }
+
+    #[test]
+    fn commands_of_textures_in_the_order_of_their_words(rt: HostRuntime) {
+        let table = [
+            (Rec::IsTexture { name: 9 }, 0x09, [9].as_slice()),
+            (
+                Rec::GenTextures { count: -1 },
+                0x70,
+                [0xFFFF_FFFF].as_slice(),
+            ),
+            (
+                Rec::BindTexture {
+                    target: 0x0DE1,
+                    name: 5,
+                },
+                0x72,
+                [0x0DE1, 5].as_slice(),
+            ),
+            (
+                Rec::TexParameterx {
+                    target: 0x0DE1,
+                    parameter: 0x2801,
+                    value: 0x2702,
+                },
+                0x73,
+                [0x0DE1, 0x2801, 0x2702].as_slice(),
+            ),
+        ];
+        for (rec, opcode, words) in &table {
+            let spelled = spell(rec);
+            assert_eq!(rt; spelled.opcode(), *opcode);
+            assert_eq!(rt; spelled.words(), *words);
+        }
+    }
+
+    #[test]
+    fn a_box_of_texels_is_eight_words_and_the_texels(rt: HostRuntime) -> Result<(), Fail> {
+        let rec = Rec::TexSubImage2D {
+            target: 0x0DE1,
+            level: 1,
+            x: 2,
+            y: -3,
+            width: 4,
+            height: 8,
+            format: 0x1908,
+            kind: 0x8033,
+            piece: Bytes::new(vec![in rt.alloc(); 7, 6]?),
+        };
+        let spelled = spell(&rec);
+        assert_eq!(rt; spelled.opcode(), 0x75);
+        assert_eq!(rt;
+            spelled.words(),
+            [0x0DE1, 1, 2, 0xFFFF_FFFD, 4, 8, 0x1908, 0x8033].as_slice()
+        );
+        let (list, bytes) = spelled.piece();
+        assert_eq!(rt; list.len(), 0);
+        assert_eq!(rt; bytes, [7, 6].as_slice());
+        Ok(())
+    }
 }

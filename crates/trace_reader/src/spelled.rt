@@ -6,7 +6,7 @@ ghost use Rattle.trace_reader.specs.Table.{piece_of as record_piece};
 
 use crate::table::{
     arrays, blending, buffers, clears, control, current, environments, fragment_tests, lighting,
-    matrices, piece_of, pixels, raster, switches,
+    matrices, piece_of, pixels, raster, switches, textures,
 };
 use crate::words::Words;
 use gl_records::Rec;
@@ -134,6 +134,9 @@ pub fn spell(rec: &Rec) -> Spelled<'_>
         return spelled;
     }
     if let Some(spelled) = clears::spelling(rec) {
+        return spelled;
+    }
+    if let Some(spelled) = textures::spelling(rec) {
         return spelled;
     }
     if let Some(spelled) = environments::spelling(rec) {

@@ -3,6 +3,7 @@ ghost use Rattle.std.specs.Prelude.{◌≡◌, ◌≤◌, ◌++◌, false, true,
 ghost use Rattle.trace_reader.specs.Command.{with_words};
 ghost use Rattle.trace_reader.specs.Lists.{brings_list, words_bytes, words_from as list_from};
 ghost use Rattle.trace_reader.specs.Shape.{words_of, has_piece};
+ghost use Rattle.trace_reader.specs.Textures.{brings_texels};
 ghost use Rattle.trace_reader.specs.Table.{row as row_of, piece_of as record_piece, with_piece as record_with_piece};
 
 pub mod arrays;
@@ -18,6 +19,7 @@ pub mod matrices;
 pub mod pixels;
 pub mod raster;
 pub mod switches;
+pub mod textures;
 
 use crate::shape::Shape;
 use crate::words::Words;
@@ -33,8 +35,10 @@ pub fn row(alloc: Global, opcode: u16, n: &Words) -> Option<(Shape, Rec)>
 {
     if opcode < 0x08 {
         control::row(opcode, n)
-    } else if opcode < 0x10 {
+    } else if opcode < 0x09 {
         buffers::row(alloc, opcode, n)
+    } else if opcode < 0x10 {
+        textures::row(alloc, opcode, n)
     } else if opcode < 0x18 {
         arrays::row(alloc, opcode, n)
     } else if opcode < 0x1D {
@@ -57,8 +61,10 @@ pub fn row(alloc: Global, opcode: u16, n: &Words) -> Option<(Shape, Rec)>
         blending::row(opcode, n)
     } else if opcode < 0x62 {
         fragment_tests::row(opcode, n)
-    } else if opcode < 0x7A {
+    } else if opcode < 0x70 {
         clears::row(opcode, n)
+    } else if opcode < 0x7A {
+        textures::row(alloc, opcode, n)
     } else if opcode < 0x7B {
         environments::row(opcode, n)
     } else {
@@ -75,9 +81,10 @@ fn words_from(alloc: Global, bytes: &[u8]) -> Result<Names, AllocError>
     Ok(Names::new(words))
 }
 
-/// The record with these bytes as its piece, where it has one.
+/// The record with these bytes as its piece, where it has one; it is no image's.
 fn with_bytes(rec: Rec, piece: Bytes) -> Rec
-    requires { brings_list rec ≡ false }
+    requires list { brings_list rec ≡ false }
+    requires texels { brings_texels rec ≡ false }
     ensures { result ≡ record_with_piece piece rec }
 {
     match rec {
@@ -108,6 +115,77 @@ fn with_bytes(rec: Rec, piece: Bytes) -> Rec
     }
 }
 
+/// The record with these bytes as its piece, where it has one; they may be texels.
+fn with_texels(rec: Rec, piece: Bytes) -> Rec
+    requires { brings_list rec ≡ false }
+    ensures { result ≡ record_with_piece piece rec }
+{
+    match rec {
+        Rec::TexImage2D {
+            target,
+            level,
+            internal,
+            width,
+            height,
+            border,
+            format,
+            kind,
+            ..
+        } => Rec::TexImage2D {
+            target,
+            level,
+            internal,
+            width,
+            height,
+            border,
+            format,
+            kind,
+            piece,
+        },
+        Rec::TexSubImage2D {
+            target,
+            level,
+            x,
+            y,
+            width,
+            height,
+            format,
+            kind,
+            ..
+        } => Rec::TexSubImage2D {
+            target,
+            level,
+            x,
+            y,
+            width,
+            height,
+            format,
+            kind,
+            piece,
+        },
+        Rec::CompressedTexImage2D {
+            target,
+            level,
+            internal,
+            width,
+            height,
+            border,
+            size,
+            ..
+        } => Rec::CompressedTexImage2D {
+            target,
+            level,
+            internal,
+            width,
+            height,
+            border,
+            size,
+            piece,
+        },
+        rec => with_bytes(rec, piece),
+    }
+}
+
 /// The record with this piece, where it has one. Only a list of words takes memory of its own.
 pub fn with_piece(alloc: Global, rec: Rec, piece: Bytes) -> Result<Rec, AllocError>
     ensures with { IfOk result (λ whole. whole ≡ record_with_piece piece rec) }
@@ -117,7 +195,10 @@ pub fn with_piece(alloc: Global, rec: Rec, piece: Bytes) -> Result<Rec, AllocErr
         Rec::DeleteBuffers { .. } => Ok(Rec::DeleteBuffers {
             names: words_from(alloc, piece.as_slice())?,
         }),
-        rec => Ok(with_bytes(rec, piece)),
+        Rec::DeleteTextures { .. } => Ok(Rec::DeleteTextures {
+            names: words_from(alloc, piece.as_slice())?,
+        }),
+        rec => Ok(with_texels(rec, piece)),
     }
 }
 
@@ -127,9 +208,13 @@ pub fn piece_of(rec: &Rec) -> (&[u32], &[u8])
 {
     match rec {
         Rec::DeleteBuffers { names } => (names.as_slice(), b""),
+        Rec::DeleteTextures { names } => (names.as_slice(), b""),
         Rec::ClientBytes { piece, .. } => (&[], piece.as_slice()),
         Rec::BufferData { piece, .. } => (&[], piece.as_slice()),
         Rec::BufferSubData { piece, .. } => (&[], piece.as_slice()),
+        Rec::TexImage2D { piece, .. } => (&[], piece.as_slice()),
+        Rec::TexSubImage2D { piece, .. } => (&[], piece.as_slice()),
+        Rec::CompressedTexImage2D { piece, .. } => (&[], piece.as_slice()),
         _ => (&[], b""),
     }
 }
