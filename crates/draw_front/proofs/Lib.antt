@@ -2,3 +2,4 @@ pub mod Raised
 pub mod Refusals
 pub mod Stated
 pub mod Stepped
+pub mod Fragments

@@ -3,8 +3,9 @@ use Rattle.std.proofs.Common.{◌≡◌, ◌≤◌, ◌∙◌, ◌+◌, ℕ, ℤ
 use Rattle.std.specs.Prelude.{option_to_list}
 use Rattle.std.proofs.lemmas.List.{append-nil}
 use Rattle.buffer_objects.specs.Commands.{given_names}
+use Rattle.texture_store.specs.Commands as texture_commands
 use Rattle.gl_records.specs.declared.rec.Rec.{Rec}
-use Rattle.gl_records.specs.declared.rec.Rec.TheVariants.{End, GetError, Get, IsEnabled, IsBuffer, GenBuffers}
+use Rattle.gl_records.specs.declared.rec.Rec.TheVariants.{End, GetError, Get, IsEnabled, IsBuffer, IsTexture, GenBuffers, GenTextures}
 use Rattle.gl_records.specs.Captured.{Captured}
 use Rattle.gl_tokens.specs.declared.gl_error.GlError.{GlError}
 use Rattle.output_format.specs.Log.{raise_line}
@@ -34,7 +35,9 @@ refused-line context index GetError error is = absurd cc
 refused-line context index (Get query) error is = unanswered index (queried context (Get query)) error is
 refused-line context index (IsEnabled capability) error is = unanswered index (queried context (IsEnabled capability)) error is
 refused-line context index (IsBuffer name) error is = unanswered index (queried context (IsBuffer name)) error is
+refused-line context index (IsTexture name) error is = unanswered index (queried context (IsTexture name)) error is
 refused-line context index (GenBuffers count) error is = ungiven index (given_names context.buffers count) error is
+refused-line context index (GenTextures count) error is = ungiven index (texture_commands.given_names context.textures count) error is
 refused-line context index _ error is = refl
 
 -- a call with an error, whose context is the one before it

@@ -1,11 +1,11 @@
 -- A command of the state alone.
 use Rattle.std.proofs.Common.{◌≡◌, ◌∙◌, ℕ, ℤ, true, false, Option, Some, None, OnSome, refl, sym, ap}
 use Rattle.gl_records.specs.declared.rec.Rec.{Rec}
-use Rattle.gl_records.specs.declared.rec.Rec.TheVariants.{GetError, Get, IsEnabled, IsBuffer, ClientBytes, VertexPointer, NormalPointer, ColorPointer, TexCoordPointer, EnableClientState, DisableClientState, ClientActiveTexture, DrawArrays, DrawElements, GenBuffers, DeleteBuffers, BindBuffer, BufferData, BufferSubData, Clear}
+use Rattle.gl_records.specs.declared.rec.Rec.TheVariants.{GetError, Get, IsEnabled, IsBuffer, IsTexture, ClientBytes, VertexPointer, NormalPointer, ColorPointer, TexCoordPointer, EnableClientState, DisableClientState, ClientActiveTexture, DrawArrays, DrawElements, GenBuffers, DeleteBuffers, BindBuffer, BufferData, BufferSubData, Clear, GenTextures, DeleteTextures, BindTexture, TexParameterx, TexImage2D, TexSubImage2D, CompressedTexImage2D}
 use Rattle.gl_state.specs.declared.state.State.{State}
 use Rattle.gl_state.specs.State.{ran}
 use Rattle.gl_tokens.specs.declared.gl_error.GlError.{GlError}
-use Rattle.draw_front.specs.Call.{commanded, on_state, changes_memory}
+use Rattle.draw_front.specs.Call.{commanded, on_state, changes_memory, changes_textures}
 use Rattle.draw_front.specs.Context.{Context}
 
 -- the record is none of the commands that touch something else
@@ -14,6 +14,7 @@ pub record IsOfState (rec : Rec) : Type 0 where
   pub get : (x : ℕ) → rec ≡ Get x → ⊥
   pub enabled : (x : ℕ) → rec ≡ IsEnabled x → ⊥
   pub buffer : (x : ℕ) → rec ≡ IsBuffer x → ⊥
+  pub texture : (x : ℕ) → rec ≡ IsTexture x → ⊥
   pub pointer : (a : ℤ) (b : ℕ) (c : ℤ) (d e : ℕ) → rec ≡ VertexPointer a b c d e → ⊥
   pub normals : (a : ℕ) (b : ℤ) (c d : ℕ) → rec ≡ NormalPointer a b c d → ⊥
   pub colors : (a : ℤ) (b : ℕ) (c : ℤ) (d e : ℕ) → rec ≡ ColorPointer a b c d e → ⊥
@@ -24,17 +25,19 @@ pub record IsOfState (rec : Rec) : Type 0 where
   pub draw : (x : ℕ) (y z : ℤ) → rec ≡ DrawArrays x y z → ⊥
   pub elements : (a : ℕ) (b : ℤ) (c d e : ℕ) → rec ≡ DrawElements a b c d e → ⊥
   pub memory : changes_memory rec ≡ false
+  pub textures : changes_textures rec ≡ false
   pub clear : (x : ℕ) → rec ≡ Clear x → ⊥
 
-memory_changed : true ≡ false → ⊥
-memory_changed is = absurd cc
+changed : true ≡ false → ⊥
+changed is = absurd cc
 
 pub stated : (context : Context) (rec : Rec) → IsOfState rec → commanded context rec ≡ on_state context (ran context.state rec)
 stated context GetError of = absurd (of.error refl)
 stated context (Get x) of = absurd (of.get x refl)
 stated context (IsEnabled x) of = absurd (of.enabled x refl)
 stated context (IsBuffer x) of = absurd (of.buffer x refl)
-stated context (ClientBytes x y) of = absurd (memory_changed of.memory)
+stated context (IsTexture x) of = absurd (of.texture x refl)
+stated context (ClientBytes x y) of = absurd (changed of.memory)
 stated context (VertexPointer a b c d e) of = absurd (of.pointer a b c d e refl)
 stated context (NormalPointer a b c d) of = absurd (of.normals a b c d refl)
 stated context (ColorPointer a b c d e) of = absurd (of.colors a b c d e refl)
@@ -44,12 +47,19 @@ stated context (DisableClientState x) of = absurd (of.disable x refl)
 stated context (ClientActiveTexture x) of = absurd (of.unit x refl)
 stated context (DrawArrays x y z) of = absurd (of.draw x y z refl)
 stated context (DrawElements a b c d e) of = absurd (of.elements a b c d e refl)
-stated context (GenBuffers x) of = absurd (memory_changed of.memory)
-stated context (DeleteBuffers x) of = absurd (memory_changed of.memory)
-stated context (BindBuffer x y) of = absurd (memory_changed of.memory)
-stated context (BufferData a b c d) of = absurd (memory_changed of.memory)
-stated context (BufferSubData a b c d) of = absurd (memory_changed of.memory)
+stated context (GenBuffers x) of = absurd (changed of.memory)
+stated context (DeleteBuffers x) of = absurd (changed of.memory)
+stated context (BindBuffer x y) of = absurd (changed of.memory)
+stated context (BufferData a b c d) of = absurd (changed of.memory)
+stated context (BufferSubData a b c d) of = absurd (changed of.memory)
 stated context (Clear x) of = absurd (of.clear x refl)
+stated context (GenTextures x) of = absurd (changed of.textures)
+stated context (DeleteTextures x) of = absurd (changed of.textures)
+stated context (BindTexture x y) of = absurd (changed of.textures)
+stated context (TexParameterx x y z) of = absurd (changed of.textures)
+stated context (TexImage2D a b c d e f g h i) of = absurd (changed of.textures)
+stated context (TexSubImage2D a b c d e f g h i) of = absurd (changed of.textures)
+stated context (CompressedTexImage2D a b c d e f g h) of = absurd (changed of.textures)
 stated context _ of = refl
 
 pub stated-run : (before now next : Context) (rec : Rec) (state : State) (result : Option GlError) → IsOfState rec → before ≡ now

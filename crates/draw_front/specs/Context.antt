@@ -5,6 +5,7 @@ use Rattle.gl_records.specs.declared.size.Size.{Size}
 use Rattle.gl_state.specs.declared.state.State.{State}
 use Rattle.gl_state.specs.State.{opening_state}
 use Rattle.gl_tokens.specs.declared.gl_error.GlError.{GlError}
+use Rattle.texture_store.specs.Textures.{TextureObjects, opening_textures}
 use Rattle.vertex_fetch.specs.declared.arrays.Arrays.{Arrays}
 use Rattle.vertex_fetch.specs.Arrays.{opening_arrays}
 use Rattle.vertex_fetch.specs.Regions.{opening_regions}
@@ -20,6 +21,8 @@ pub record Context : Type 0 where
   pub regions : List (List ℕ)
   -- the buffer objects, and which are bound
   pub buffers : BufferObjects
+  -- the texture objects, and which are bound
+  pub textures : TextureObjects
 
 -- the context before the first command
 abbrev pub opening_context : Size → Context
@@ -29,4 +32,5 @@ opening_context size = record {
   arrays = opening_arrays;
   regions = opening_regions;
   buffers = opening_buffers;
+  textures = opening_textures;
 }

@@ -5,8 +5,9 @@ use Rattle.gl_records.specs.declared.clear.ClearItem.{ClearItem}
 use Rattle.gl_records.specs.declared.rec.Rec.{Rec}
 use Rattle.gl_records.specs.declared.rec.Rec.TheVariants as rec
 use Rattle.gl_records.specs.declared.size.Size.{Size}
-use Rattle.gl_records.specs.Captured.{Captured}
+use Rattle.gl_records.specs.Captured.{Captured, without_versions}
 use Rattle.gl_records.specs.Captured as captured
+use Rattle.gl_records.specs.Shading.{AreReadable, unit_at}
 use Rattle.gl_records.specs.Valid.{IsValidClear}
 use Rattle.gl_state.specs.ClearItem.{clear_item}
 use Rattle.gl_tokens.specs.Mode as mode_codes
@@ -18,19 +19,26 @@ use Rattle.vertex_fetch.specs.Draws.{draw_error}
 use Rattle.draw_front.specs.declared.pending.Pending.{Pending}
 use Rattle.draw_front.specs.declared.pending.Pending.TheVariants.{Nothing, Clear, Draw}
 use Rattle.draw_front.specs.Context.{Context}
-use Rattle.draw_front.specs.Draws.{draw_state, fragments_of, memory_of}
+use Rattle.draw_front.specs.Draws.{captured_draw, draw_state, fragments_of, memory_of, unit_content}
 
 -- the items themselves
 abbrev pub items_left : Size → Context → Pending → List Captured
 items_left size context Nothing = []
 items_left size context (Clear clear) = captured.Clear clear ∷ []
-items_left size context (Draw fragments rest) = map (λ prim. captured.Draw prim fragments) (primitives_left (memory_of context) size rest)
+items_left size context (Draw fragments rest) = map (λ prim. captured_draw context.textures prim fragments) (primitives_left (memory_of context) size rest)
 
--- what holds of them: a Clear can be drawn
-abbrev pub IsPending : Size → Pending → Type 0
-IsPending size Nothing = Unit {0}
-IsPending size (Clear clear) = IsValidClear clear size
-IsPending size (Draw fragments rest) = Unit {0}
+-- what holds of them: a Clear can be drawn, and of a draw the images that its units read
+abbrev pub IsPending : Size → Context → Pending → Type 0
+IsPending size context Nothing = Unit {0}
+IsPending size context (Clear clear) = IsValidClear clear size
+IsPending size context (Draw fragments rest) =
+    AreReadable (without_versions fragments) (unit_content (unit_at fragments 0) context.textures 0) (unit_content (unit_at fragments 1) context.textures 1)
+
+-- the same items, whatever versions their units name
+abbrev pub unversioned : Pending → Pending
+unversioned Nothing = Nothing
+unversioned (Clear clear) = Clear clear
+unversioned (Draw fragments rest) = Draw (without_versions fragments) rest
 
 -- how a Clear is kept
 abbrev pub pending_clear : Option ClearItem → Pending
@@ -40,7 +48,7 @@ pending_clear None = Nothing
 -- how a draw of n vertices is kept: nothing where it has an error, or where there is no vertex array
 abbrev pub pending_vertices : Context → Rec → Option GlError → Option Mode → ℕ → Pending
 pending_vertices context rec None (Some mode) n =
-    if is_enabled context.arrays Vertex then Draw (fragments_of context.state) (all_of (draw_state context.state) rec context.buffers.bindings.element_array mode n) else Nothing
+    if is_enabled context.arrays Vertex then Draw (fragments_of context.state context.textures) (all_of (draw_state context.state) rec context.buffers.bindings.element_array mode n) else Nothing
 pending_vertices context rec _ _ n = Nothing
 
 abbrev pub pending_draw : Context → Rec → ℕ → ℤ → Pending

@@ -1,12 +1,13 @@
-ghost use Rattle.std.specs.Prelude.{◌≡◌, false, IfOk, OnErr, OnSome};
+ghost use Rattle.std.specs.Prelude.{◌≡◌, [], false, IfOk, OnErr, OnSome};
 ghost use Rattle.gl_records.specs.Size.{IsSize};
 ghost use Rattle.gl_query.specs.Values.{answered, one as one_of, truth as truth_of};
-ghost use Rattle.draw_front.specs.Call.{answer_error, bound_names, changes_memory, commanded, on_arrays, queried, with_error};
+ghost use Rattle.draw_front.specs.Call.{answer_error, bound_names, changes_memory, changes_textures, commanded, image_written, on_arrays, queried, with_error};
 ghost use Rattle.draw_front.specs.Context.{opening_context};
 ghost use Rattle.draw_front.specs.Draws.{memory_of};
 ghost use Rattle.vertex_fetch.specs.Arrays.{with_command};
-ghost use Rattle.gl_records.specs.declared.rec.Rec.TheVariants.{BufferSubData, ClientActiveTexture, DeleteBuffers, GenBuffers};
+ghost use Rattle.gl_records.specs.declared.rec.Rec.TheVariants.{BufferSubData, ClientActiveTexture, DeleteBuffers, GenBuffers, GenTextures};
 
+use crate::owned_textures::OwnedTextures;
 use buffer_objects::{BufferKey, Buffers};
 use draw_primitives::Memory;
 use gl_query::{Bound, Values, answer, truth};
@@ -15,6 +16,7 @@ use gl_state::{ErrorFlag, State, clear_error};
 use gl_tokens::{ArrayKind, BufferTarget, GlError};
 use std::alloc::{AllocError, Global};
 use std::marker::Model;
+use texture_ghosts::Lent;
 use vertex_fetch::{Arrays, Regions, draw_error};
 
 /// What the commands leave.
@@ -29,16 +31,19 @@ pub struct Context {
     pub(crate) regions: Regions,
     /// The buffer objects, and which are bound.
     pub(crate) buffers: Buffers,
+    /// The texture objects, and which are bound.
+    pub(crate) textures: OwnedTextures,
 }
 
 impl Model for Context {
     ghost use Rattle.buffer_objects.specs.Buffers.{buffers_code};
     ghost use Rattle.draw_front.specs.Context.{Context};
     ghost use Rattle.std.specs.Coded.{codes};
+    ghost use Rattle.std.specs.FinMap as map;
 
     ghost Value = { Context };
 
-    ghost coded = { Prim.hlevel (codes, buffers_code) };
+    ghost coded = { Prim.hlevel (codes, map.code, buffers_code) };
 
     ghost view = { λ context. record {
       state = context.state;
@@ -46,6 +51,7 @@ impl Model for Context {
       arrays = context.arrays;
       regions = context.regions;
       buffers = context.buffers;
+      textures = context.textures;
     } };
 }
 
@@ -61,12 +67,14 @@ impl Context {
             arrays: Arrays::new(),
             regions: Regions::new(alloc),
             buffers: Buffers::new(alloc),
+            textures: OwnedTextures::new(alloc),
         }
     }
 
     /// Runs the record's command, and answers its error, which the flag doesn't have yet. Where memory is out, nothing is
     /// changed.
-    pub fn run(&mut self, rec: Rec) -> Result<Option<GlError>, AllocError>
+    pub fn run(&mut self, rec: Rec, lent: &Lent) -> Result<Option<GlError>, AllocError>
+        requires lent { lent.now ≡ [] }
         ensures run { IfOk result (λ error. (self.new, error) ≡ commanded self.old rec) }
         ensures unchanged { IfOk result (λ error. OnSome error (self.new ≡ self.old)) }
         ensures memory { OnErr result (self.new ≡ self.old) }
@@ -88,13 +96,46 @@ impl Context {
                 size,
                 piece,
             } => Ok(self.buffer_sub_data(target, offset, size, &piece)),
-            rec => Ok(self.run_beside_memory(&rec)),
+            rec => self.run_on_textures(&rec, lent),
         }
     }
 
     /// Runs a command that changes no client region, no buffer object and no binding of one.
-    fn run_beside_memory(&mut self, rec: &Rec) -> Option<GlError>
-        requires { changes_memory rec.now ≡ false }
+    fn run_on_textures(&mut self, rec: &Rec, lent: &Lent) -> Result<Option<GlError>, AllocError>
+        requires lent { lent.now ≡ [] }
+        requires memory { changes_memory rec.now ≡ false }
+        ensures run { IfOk result (λ error. (self.new, error) ≡ commanded self.old rec.now) }
+        ensures unchanged { IfOk result (λ error. OnSome error (self.new ≡ self.old)) }
+        ensures memory { OnErr result (self.new ≡ self.old) }
+    {
+        match rec {
+            Rec::GenTextures { count } => self.gen_textures(*count),
+            Rec::DeleteTextures { names } => {
+                self.textures.drop_names(lent, names.as_slice());
+                Ok(None)
+            }
+            Rec::BindTexture { target, name } => {
+                let unit = self.state.unit();
+                self.textures.bind(unit, *target, *name)
+            }
+            Rec::TexParameterx {
+                target,
+                parameter,
+                value,
+            } => {
+                let unit = self.state.unit();
+                Ok(self.textures.set_param(unit, *target, *parameter, *value))
+            }
+            Rec::TexImage2D { .. } | Rec::TexSubImage2D { .. } | Rec::CompressedTexImage2D { .. } =>
+                self.write_image(rec, lent),
+            _ => Ok(self.run_beside_objects(rec)),
+        }
+    }
+
+    /// Runs a command that changes no client region, no buffer object and no texture object, and no binding of one.
+    fn run_beside_objects(&mut self, rec: &Rec) -> Option<GlError>
+        requires memory { changes_memory rec.now ≡ false }
+        requires textures { changes_textures rec.now ≡ false }
         ensures run { (self.new, result) ≡ commanded self.old rec.now }
         ensures unchanged { OnSome result (self.new ≡ self.old) }
     {
@@ -103,7 +144,10 @@ impl Context {
                 self.flag.take();
                 None
             }
-            Rec::Get { .. } | Rec::IsEnabled { .. } | Rec::IsBuffer { .. } => self.query_error(rec),
+            Rec::Get { .. }
+            | Rec::IsEnabled { .. }
+            | Rec::IsBuffer { .. }
+            | Rec::IsTexture { .. } => self.query_error(rec),
             Rec::VertexPointer { .. }
             | Rec::NormalPointer { .. }
             | Rec::ColorPointer { .. }
@@ -128,6 +172,26 @@ impl Context {
             Ok(_) => Ok(None),
             Err(error) => Ok(Some(error)),
         }
+    }
+
+    fn gen_textures(&mut self, count: i32) -> Result<Option<GlError>, AllocError>
+        ensures run { IfOk result (λ error. (self.new, error) ≡ commanded self.old (GenTextures count)) }
+        ensures unchanged { IfOk result (λ error. OnSome error (self.new ≡ self.old)) }
+        ensures memory { OnErr result (self.new ≡ self.old) }
+    {
+        self.textures.make_names(count)
+    }
+
+    /// A command that gives an image or a part of one.
+    fn write_image(&mut self, rec: &Rec, lent: &Lent) -> Result<Option<GlError>, AllocError>
+        requires lent { lent.now ≡ [] }
+        ensures run { IfOk result (λ error. (self.new, error) ≡ image_written self.old rec.now) }
+        ensures unchanged { IfOk result (λ error. OnSome error (self.new ≡ self.old)) }
+        ensures memory { OnErr result (self.new ≡ self.old) }
+    {
+        let (unpack, _) = self.state.aligns();
+        let unit = self.state.unit();
+        self.textures.write(lent, unit, unpack, rec)
     }
 
     fn delete_buffers(&mut self, names: &Words) -> Option<GlError>
@@ -207,7 +271,7 @@ impl Context {
         None
     }
 
-    /// What a query answers; IsBuffer is one. InvalidEnum where Get asks for a value that isn't answered, or IsEnabled for
+    /// What a query answers; IsBuffer and IsTexture are such. InvalidEnum where Get asks for a value that isn't answered, or IsEnabled for
     /// what is neither a capability nor an array.
     pub fn query(&self, rec: &Rec) -> Result<Values, GlError>
         ensures { answered result ≡ queried self.now rec.now }
@@ -220,17 +284,19 @@ impl Context {
                 answer(&self.state, &self.bound(), rec)
             }
             Rec::IsBuffer { name } => Ok(truth(self.buffers.is_buffer(*name))),
+            Rec::IsTexture { name } => Ok(truth(self.textures.is_texture(*name))),
             _ => answer(&self.state, &self.bound(), rec),
         }
     }
 
     /// The names of what is bound.
     fn bound(&self) -> Bound
-        ensures { result ≡ bound_names self.now.buffers }
+        ensures { result ≡ bound_names self.now }
     {
         Bound {
             array: self.buffers.binding(BufferTarget::Array),
             element: self.buffers.binding(BufferTarget::ElementArray),
+            textures: [self.textures.bound(0), self.textures.bound(1)],
         }
     }
 

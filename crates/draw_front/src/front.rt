@@ -1,5 +1,6 @@
 ghost use Rattle.std.specs.Prelude.{◌≡◌, ◌+◌, ◌^◌, ◌<◌, ◌++◌, [], true, map, option_to_list, length, ◌≤◌, Some, IsErr, IsNone, IfOk, IfSome, OnErr, OnOk};
-ghost use Rattle.gl_records.specs.Captured.{captured};
+ghost use Rattle.draw_front.specs.Draws.{captured_in, content_in};
+ghost use Rattle.std.specs.Option.{option_copied};
 ghost use Rattle.gl_records.specs.Size.{IsSize};
 ghost use Rattle.gl_records.specs.Valid.{IsDrawable};
 ghost use Rattle.trace_reader.specs.Reading.{index_after as index_after_of};
@@ -10,13 +11,14 @@ ghost use Rattle.draw_front.specs.Immediate.{joined};
 use crate::context::Context;
 use crate::pending::Pending;
 use crate::step::Step;
-use gl_records::{Bytes, Item, Rec, Size};
+use gl_records::{Bytes, ImageSet, Item, Rec, Size};
 use gl_tokens::GlError;
 use output_format::{append_error, append_get, append_names, append_raise};
 use std::alloc::{AllocError, Global};
 use std::marker::Model;
 use std::mem;
 use std::thread::Threads;
+use texture_ghosts::Lent;
 
 /// The collecting side of a run. Records go in one after the other; their items and the lines of the log come out.
 /// After want of memory each later call that can answer it does.
@@ -40,10 +42,11 @@ impl Model for Front {
     ghost use Rattle.draw_front.specs.Pending.{IsPending, items_left};
     ghost use Rattle.buffer_objects.specs.Buffers.{buffers_code};
     ghost use Rattle.std.specs.Coded.{codes};
+    ghost use Rattle.std.specs.FinMap as map;
 
     ghost Value = { Collecting };
 
-    ghost coded = { Prim.hlevel (codes, buffers_code) };
+    ghost coded = { Prim.hlevel (codes, map.code, buffers_code) };
 
     ghost view = { λ front. record {
       size = front.size;
@@ -56,7 +59,7 @@ impl Model for Front {
     } };
 
     // A record makes one line at most.
-    ghost invariant = { λ front. IsSize front.size × IsPending front.size front.pending × (front.line_count ≤ front.index) };
+    ghost invariant = { λ front. IsSize front.size × IsPending front.size front.context front.pending × (front.line_count ≤ front.index) };
 }
 
 impl Front {
@@ -81,7 +84,8 @@ impl Front {
     /// error, also where it has none, Present for Swap, Ended for End, and Quiet for all else. The items of the
     /// record before were all taken, and the records that were run can be counted in 32 bits, as those of every
     /// trace can.
-    pub fn step(&mut self, rec: Rec) -> Result<Step, AllocError>
+    pub fn step(&mut self, rec: Rec, lent: &Lent) -> Result<Step, AllocError>
+        requires lent { lent.now ≡ [] }
         requires taken { self.old.left ≡ [] }
         requires countable { self.old.index + 1 < 2 ^ 32 }
         ensures answer { IfOk result (λ step. step ≡ answer_of rec (asked_of self.old rec).error) }
@@ -95,14 +99,14 @@ impl Front {
             return Err(AllocError);
         }
         let step = Step::of(&rec);
-        let pending = Pending::of(&self.context, self.size, &rec);
+        let pending = Pending::of(&self.context, self.size, &rec, lent);
         let index = index_after(self.index, &rec);
         let waiting = self.lines.len();
         let Ok(made) = append_line(self.alloc, &mut self.lines, self.index, &self.context, &rec)
         else {
             return Err(self.run_out());
         };
-        let Ok(error) = self.context.run(rec) else {
+        let Ok(error) = self.context.run(rec, lent) else {
             self.lines.truncate(waiting);
             return Err(self.run_out());
         };
@@ -142,10 +146,15 @@ impl Front {
     }
 
     /// Takes the next item of the record, None exactly at their end. Each can be drawn on a surface of this size.
-    pub fn next_item<R: Threads>(&mut self, _rt: &R) -> Result<Option<Item>, AllocError>
-        ensures items { IfOk result (λ item. self.old.left ≡ map captured (option_to_list item) ++ self.new.left) }
+    pub fn next_item<R: Threads>(
+        &mut self,
+        _rt: &R,
+        lent: &Lent,
+    ) -> Result<Option<Item>, AllocError>
+        requires lent { lent.now ≡ [] }
+        ensures items { IfOk result (λ item. self.old.left ≡ map (captured_in self.old.context.textures) (option_to_list item) ++ self.new.left) }
         ensures end { IfOk result (λ item. IsNone item → self.new.left ≡ []) }
-        ensures drawable { IfOk result (λ item. IfSome item (λ item. IsDrawable (captured item) self.old.size)) }
+        ensures drawable { IfOk result (λ item. IfSome item (λ item. IsDrawable (captured_in self.old.context.textures item) self.old.size)) }
         ensures others { OnOk result (self.new ≡ record self.old { left = self.new.left }) }
         ensures memory { OnErr result (self.new ≡ record self.old { out_of_memory = true }) }
         ensures kept { self.old.out_of_memory ≡ true → IsErr result }
@@ -153,7 +162,25 @@ impl Front {
         if self.out_of_memory {
             return Err(AllocError);
         }
+        let _ = lent;
         Ok(self.pending.next(&self.context, self.size))
+    }
+
+    /// The image that an item reads by a texture unit, 0 or 1, at the moment of its record: None where it reads none. The
+    /// item is one that [`Front::next_item`] answered, and no record was run since.
+    pub fn image<'a>(&'a self, item: &Item, unit: u8, lent: &'a Lent) -> Option<&'a ImageSet>
+        requires unit { unit < 2 }
+        requires lent { lent.now ≡ [] }
+        requires drawable { IsDrawable (captured_in self.now.context.textures item.now) self.now.size }
+        ensures { option_copied result ≡ content_in self.now.context.textures item.now unit }
+    {
+        match item {
+            Item::Draw(_, state) => self
+                .context
+                .textures
+                .read(lent, unit, &state.units[usize::from(unit)]),
+            Item::Clear(_) => None,
+        }
     }
 
     /// The size of the surface.
@@ -226,13 +253,21 @@ fn append_line(
             }
             Err(_) => Ok(0),
         },
-        Rec::Get { .. } | Rec::IsEnabled { .. } | Rec::IsBuffer { .. } => match context.query(rec) {
-            Ok(values) => {
-                append_get(alloc, lines, index, values.as_slice())?;
+        Rec::GenTextures { count } => match context.textures.names_for(*count)? {
+            Ok(names) => {
+                append_names(alloc, lines, index, &names)?;
                 Ok(1)
             }
             Err(_) => Ok(0),
         },
+        Rec::Get { .. } | Rec::IsEnabled { .. } | Rec::IsBuffer { .. } | Rec::IsTexture { .. } =>
+            match context.query(rec) {
+                Ok(values) => {
+                    append_get(alloc, lines, index, values.as_slice())?;
+                    Ok(1)
+                }
+                Err(_) => Ok(0),
+            },
         _ => Ok(0),
     }
 }

@@ -8,6 +8,7 @@ use std::alloc::{AllocError, Global};
 use std::process::Abort;
 use std::test::Fail;
 use std::thread::Threads;
+use texture_ghosts::Lent;
 
 const SIZE: Size = Size { w: 16, h: 16 };
 
@@ -30,9 +31,10 @@ fn stepped<R: Threads + AllocGlobal>(
     ensures taken { OnOk result (front.new.left ≡ []) }
     ensures counted { OnOk result (front.new.index ≤ front.old.index + 1) }
 {
-    let step = front.step(rec)?;
+    let lent = Lent::empty(rt.alloc());
+    let step = front.step(rec, &lent)?;
     let mut items = Vec::new(rt.alloc());
-    'items: while let Some(item) = front.next_item(rt)? {
+    'items: while let Some(item) = front.next_item(rt, &lent)? {
         items.push(item)?;
     }
     Ok((step, items))

@@ -40,7 +40,9 @@ pub fn play<R: Threads, S: Source, F: Sink, L: Sink>(
         Err(end) => return put_stop(alloc, log, end),
     };
     let mut player = Player::new(alloc, size)?;
-    play_records(rt, alloc, &mut reader, &mut player, trace, frames, log)
+    let played = play_records(rt, alloc, &mut reader, &mut player, trace, frames, log);
+    drop(player);
+    played
 }
 
 /// Puts what the rest of the trace makes, its last line included.

@@ -16,6 +16,7 @@ use outer_io::Sink;
 use output_format::{Fault, put};
 use std::alloc::{AllocError, Global};
 use std::thread::Threads;
+use texture_ghosts::Lent;
 use whole_surface::Surface;
 
 /// A trace that is being played: the front, and the surface on which its items are drawn.
@@ -64,7 +65,8 @@ impl Player {
         ensures log_faults { L.faults log.old ≤ L.faults log.new }
     {
         let index = self.front.index();
-        let step = self.front.step(rec)?;
+        let lent = Lent::empty(self.alloc);
+        let step = self.front.step(rec, &lent)?;
         self.present(step, index, frames)?;
         self.draw_items(rt)?;
         self.put_lines(log)?;
@@ -93,8 +95,11 @@ impl Player {
         ensures shaped { OnOk result (IsShaped self.new.front.size self.new.surface) }
     {
         let size = self.front.size();
-        'items: while let Some(item) = self.front.next_item(rt)? {
-            self.surface.draw(size, &item);
+        let lent = Lent::empty(self.alloc);
+        'items: while let Some(item) = self.front.next_item(rt, &lent)? {
+            let first = self.front.image(&item, 0, &lent);
+            let second = self.front.image(&item, 1, &lent);
+            self.surface.draw(size, &item, first, second);
         }
         Ok(())
     }

@@ -1,12 +1,13 @@
 -- Bits of rows under a box.
 use Rattle.std.proofs.Common.{◌≡◌, ◌<◌, ◌+◌, ◌-◌, ◌*◌, ◌/◌, ◌≤◌, ◌%◌, ℕ, Bool, true, false, ◌&&◌, refl, arith, min}
-use Rattle.std.specs.Prelude.{if◌then◌else◌, bit_and, bit_or, bit_xor}
+use Rattle.std.specs.Prelude.{Option, if◌then◌else◌, bit_and, bit_or, bit_xor}
 use Rattle.std.specs.Int.Bits.{and_zero_r, or_zero_l}
 use Rattle.std.proofs.lemmas.Bool.{false≢true}
 use Rattle.std.proofs.lemmas.Nat.{and_mask}
 use Rattle.std.proofs.lemmas.Nat.Bits.{bit_at-zero}
 use Rattle.std.specs.Int.{bit_at}
 use Rattle.gl_records.specs.declared.frag_state.FragState.{FragState}
+use Rattle.gl_records.specs.declared.level.ImageSet.{ImageSet}
 use Rattle.gl_records.specs.declared.pixel.Pixel.{Pixel}
 use Rattle.gl_records.specs.declared.prim.Primitive.{Primitive}
 use Rattle.gl_records.specs.declared.tile.TileRect.{TileRect}
@@ -41,17 +42,18 @@ clear_bit : (b : Bool) (bit : ℕ) → bit ≡ (if b then 1 else 0) → bit ≡ 
 clear_bit true bit e zero = absurd (omega arith)
 clear_bit false bit e zero = refl
 
-step-unshown : (prim : Primitive) (state : FragState) (x y : ℕ) (pixel : Pixel) → shown prim state x y ≡ false → step (Draw prim state) x y pixel ≡ pixel
-step-unshown prim state x y pixel h = rw h refl
+step-unshown : (prim : Primitive) (state : FragState) (first second : Option ImageSet) (x y : ℕ) (pixel : Pixel) → shown prim state x y ≡ false
+    → step (Draw prim state first second) x y pixel ≡ pixel
+step-unshown prim state first second x y pixel h = rw h refl
 
-pub unshown : (prim : Primitive) (state : FragState) (rect : TileRect) (r bits : ℕ) → bits ≡ 0
+pub unshown : (prim : Primitive) (state : FragState) (first second : Option ImageSet) (rect : TileRect) (r bits : ℕ) → bits ≡ 0
     → ((i : ℕ) → i < 16 → bit_at bits i ≡ (if shown prim state (rect.x0 + i) (rect.y0 + r) then 1 else 0))
-    → (k : ℕ) (pixel : Pixel) → 16 * r ≤ k → k < 16 * r + 16 → tile_step (Draw prim state) rect k pixel ≡ pixel
-unshown prim state rect r bits none told k pixel low high =
+    → (k : ℕ) (pixel : Pixel) → 16 * r ≤ k → k < 16 * r + 16 → tile_step (Draw prim state first second) rect k pixel ≡ pixel
+unshown prim state first second rect r bits none told k pixel low high =
     let i = k - 16 * r in
     let less : i < 16 = omega arith in
     let column : i ≡ k % 16 = omega arith in
     let row : r ≡ k / 16 = omega arith in
     let zero : bit_at bits i ≡ 0 = rw none (bit_at-zero i) in
     let off : shown prim state (rect.x0 + i) (rect.y0 + r) ≡ false = clear_bit _ (bit_at bits i) (told i less) zero in
-    step-unshown prim state (rect.x0 + k % 16) (rect.y0 + k / 16) pixel (rw (column, row) at off)
+    step-unshown prim state first second (rect.x0 + k % 16) (rect.y0 + k / 16) pixel (rw (column, row) at off)

@@ -1,5 +1,5 @@
 -- An item on a list of tiles: tiles side by side join, tiles outside of its box stay, one tile is drawn.
-use Rattle.std.specs.Prelude.{◌≡◌, ◌≢◌, ℕ, pos, ◌+◌, ◌-◌, ◌*◌, ◌/◌, ◌%◌, ◌<◌, ◌≤◌, ◌≤ℤ◌, ◌<ℤ◌, ◌⊎◌, false, ◌&&◌, List, [], ◌∷◌, length, get_or, slice_set, IsTrue, int_le, int_lt}
+use Rattle.std.specs.Prelude.{◌≡◌, ◌≢◌, ℕ, pos, ◌+◌, ◌-◌, ◌*◌, ◌/◌, ◌%◌, ◌<◌, ◌≤◌, ◌≤ℤ◌, ◌<ℤ◌, ◌⊎◌, false, ◌&&◌, List, [], ◌∷◌, length, get_or, slice_set, Option, IsTrue, int_le, int_lt}
 use Rattle.std.proofs.Common.{refl, sym, ap, inl, inr, ◌∙◌, arith}
 use Rattle.std.proofs.lemmas.Bool.{and_parts, and_left, cases_lt, false_from_ne_true}
 use Rattle.std.proofs.lemmas.Int.{ints}
@@ -8,6 +8,7 @@ use Rattle.std.proofs.lemmas.Nat.{mul-add-lt, same_from_place}
 use Rattle.std.proofs.Math.Nat.{mul-le-mul_right}
 use Rattle.gl_records.specs.declared.clear.ClearItem.{ClearItem}
 use Rattle.gl_records.specs.declared.frag_state.FragState.{FragState}
+use Rattle.gl_records.specs.declared.level.ImageSet.{ImageSet}
 use Rattle.gl_records.specs.declared.pixel.Pixel.{Pixel}
 use Rattle.gl_records.specs.declared.pixel_box.PixelBox.{PixelBox}
 use Rattle.gl_records.specs.declared.prim.Primitive.{Primitive}
@@ -45,8 +46,9 @@ IsInBox-from area x y h =
       top = omega (arith, ints, three.1);
     }
 
-not_shown : (prim : Primitive) (state : FragState) (x y : ℕ) (pixel : Pixel) → covers prim (pos x) (pos y) ≡ false → step (Draw prim state) x y pixel ≡ pixel
-not_shown prim state x y pixel h = rw (and_left (covers prim (pos x) (pos y)) (scissor_holds state.scissor x y) h) refl
+not_shown : (prim : Primitive) (state : FragState) (first second : Option ImageSet) (x y : ℕ) (pixel : Pixel) → covers prim (pos x) (pos y) ≡ false
+    → step (Draw prim state first second) x y pixel ≡ pixel
+not_shown prim state first second x y pixel h = rw (and_left (covers prim (pos x) (pos y)) (scissor_holds state.scissor x y) h) refl
 
 not_held : (clear : ClearItem) (x y : ℕ) (pixel : Pixel) → holds clear.area x y ≡ false → step (Clear clear) x y pixel ≡ pixel
 not_held clear x y pixel h = rw h refl
@@ -54,8 +56,8 @@ not_held clear x y pixel h = rw h refl
 -- a pixel of the surface outside of the item's box stays
 outside : (item : Captured) (size : Size) (x y : ℕ) (pixel : Pixel) → IsDrawable item size → x < size.w → y < size.h → (IsInBox (box_of item) x y → ⊥)
     → step item x y pixel ≡ pixel
-outside (Draw prim state) size x y pixel valid column row out =
-    not_shown prim state x y pixel (false_from_ne_true (covers prim (pos x) (pos y)) (λ covered. out (IsInBox-from prim.bounds x y (valid.holds_covered x y column row covered))))
+outside (Draw prim state first second) size x y pixel valid column row out =
+    not_shown prim state first second x y pixel (false_from_ne_true (covers prim (pos x) (pos y)) (λ covered. out (IsInBox-from prim.bounds x y (valid.primitive.holds_covered x y column row covered))))
 outside (Clear clear) size x y pixel valid column row out =
     not_held clear x y pixel (false_from_ne_true (holds clear.area x y) (λ held. out (IsInBox-from clear.area x y held)))
 
@@ -200,6 +202,17 @@ tile_drawn item size band column rect old new tile left bottom inside within spa
     }
 
 -- ---- the whole surface
+-- the tiles are the same for another item that makes the same of each pixel
+pub drawn_as : {item other : Captured} {size : Size} {from to : ℕ} {old new : List Tile} → ((x y : ℕ) (pixel : Pixel) → step item x y pixel ≡ step other x y pixel)
+    → AreDrawn item size from to old new → AreDrawn other size from to old new
+drawn_as {size} {old} same are = record {
+  len = are.len;
+  drawn = λ x y column row low high.
+      are.drawn x y column row low high ∙ same x y (kept_pixel (record { size = size; tiles = old }) x y);
+  before = are.before;
+  behind = are.behind;
+}
+
 pub all_drawn : (item : Captured) (size : Size) (old new : List Tile) → AreDrawn item size 0 (tile_count size) old new
     → surface_of (record { size = size; tiles = new }) ≡ drawn (item ∷ []) (surface_of (record { size = size; tiles = old }))
 all_drawn item size old new are =

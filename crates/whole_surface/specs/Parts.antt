@@ -39,7 +39,7 @@ pub record AreDrawn (item : Captured) (size : Size) (from to : ℕ) (old new : L
 
 -- the box that holds all that an item touches
 abbrev pub box_of : Captured → PixelBox
-box_of (Draw prim state) = prim.bounds
+box_of (Draw prim state first second) = prim.bounds
 box_of (Clear clear) = clear.area
 
 -- the primitive covers pixel (x, y), and the scissor test lets it through

@@ -7,19 +7,22 @@
 //!
 //! ```text
 //! let mut surface = Surface::new(alloc, size)?;
-//! surface.draw(size, &item); // a primitive that is valid for this size, or a Clear
+//! surface.draw(size, &item, Some(&image), None); // a primitive that is valid for this size, or a Clear
 //! surface.row(size, 0, &mut bytes); // the colours of the lowest row
 //! ```
 #![tactic(auto)]
 
 mod clear;
 mod fragments;
+mod images;
 mod items;
 mod paint;
 mod primitive;
 mod rows;
 mod shade;
 mod surface;
+#[cfg(test)]
+mod tests;
 mod wipe;
 
 pub use surface::Surface;

@@ -2,15 +2,19 @@
 ghost use Rattle.std.specs.Prelude.{◌≡◌, ℕ, pos, ◌+◌, ◌*◌, ◌/◌, ◌<◌, ◌≤◌, ◌^◌, ◌≤ℤ◌, IfNone, IfSome, IsTrue, unsigned_abs};
 ghost use Rattle.gl_records.specs.Coverage.{corner, covers};
 ghost use Rattle.gl_records.specs.Interpolation.{interpolated_color};
+ghost use Rattle.gl_records.specs.Shading.{shaded};
 ghost use Rattle.gl_records.specs.Valid.{IsInRange};
 ghost use Rattle.gl_records.specs.Weights.{AreWeights};
 ghost use Rattle.whole_surface.specs.Flat.{HasOneColor, IsColorOf};
 ghost use Rattle.whole_surface.specs.Mean.{weighted_mean};
+ghost use Rattle.whole_surface.specs.Paints.{AreColorsOf};
 
+use crate::images::Images;
+use crate::paint::Colors;
 use coverage::weights;
-use gl_records::Prim;
+use gl_records::{FragState, Prim};
 
-/// The colour of all pixels of the primitive, where its corners have the same one.
+/// The colour of all pixels of the primitive before texturing, where its corners have the same one.
 pub fn flat_color(prim: &Prim) -> Option<[u8; 4]>
     requires { IsInRange prim.now }
     ensures flat { IfSome result (IsColorOf prim.now) }
@@ -26,23 +30,30 @@ pub fn flat_color(prim: &Prim) -> Option<[u8; 4]>
     }
 }
 
-/// The colour at the centre of pixel (x, y), before texturing. `flat` is the colour of all pixels, if there is
-/// one.
-pub fn color_at(prim: &Prim, flat: Option<[u8; 4]>, x: u16, y: u16) -> [u8; 4]
+/// The colour of the primitive's fragment at pixel (x, y), behind textures and fog.
+pub fn color_at(
+    prim: &Prim,
+    state: &FragState,
+    images: &Images<'_>,
+    colors: Colors,
+    x: u16,
+    y: u16,
+) -> [u8; 4]
     requires in_range { IsInRange prim.now }
-    requires flat { IfSome flat (IsColorOf prim.now) }
+    requires colors { AreColorsOf colors prim.now state.now images.now }
     requires covered { IsTrue (covers prim.now (pos x) (pos y)) }
-    ensures { result ≡ interpolated_color prim.now (pos x) (pos y) }
+    ensures { result ≡ shaded state.now images.now.first images.now.second prim.now (pos x) (pos y) }
 {
-    match flat {
-        Some(color) => color,
-        None => mean_color(prim, x, y),
+    match colors {
+        Colors::One(color) => color,
+        Colors::Mean => mean_color(prim, x, y),
+        Colors::Shaded => images.shade(prim, state, x, y),
     }
 }
 
 /// The mean of the corners' colours at the centre of pixel (x, y), where each counts by its weight times its q
 /// (OpenGL 1.5, 3.5.1).
-pub fn mean_color(prim: &Prim, x: u16, y: u16) -> [u8; 4]
+fn mean_color(prim: &Prim, x: u16, y: u16) -> [u8; 4]
     requires in_range { IsInRange prim.now }
     requires covered { IsTrue (covers prim.now (pos x) (pos y)) }
     ensures { result ≡ interpolated_color prim.now (pos x) (pos y) }

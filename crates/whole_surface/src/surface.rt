@@ -1,12 +1,13 @@
 //! The whole surface, on which each item is drawn at once.
-ghost use Rattle.std.specs.Prelude.{◌≡◌, ◌*◌, ◌<◌, length, get_or, [], ◌∷◌, IfOk};
-ghost use Rattle.gl_records.specs.Captured.{captured};
+ghost use Rattle.std.specs.Prelude.{◌≡◌, ◌*◌, ◌<◌, length, get_or, [], ◌∷◌, IfOk, option_copied};
+ghost use Rattle.gl_records.specs.Captured.{captured_by};
 ghost use Rattle.gl_records.specs.Size.{IsSize};
 ghost use Rattle.gl_records.specs.Surface.{drawn, opening_surface, row_bytes, IsShaped};
 ghost use Rattle.gl_records.specs.Valid.{IsDrawable};
 
+use crate::images::Images;
 use crate::items::draw_item;
-use gl_records::{Item, Size};
+use gl_records::{ImageSet, Item, Size};
 use std::alloc::{AllocError, Global};
 use std::marker::Model;
 use surface_tiles::Surface as Tiles;
@@ -42,14 +43,21 @@ impl Surface {
         Ok(Surface { tiles })
     }
 
-    /// Draws the item on each pixel. `size` is the surface's.
-    pub fn draw(&mut self, size: Size, item: &Item)
+    /// Draws the item on each pixel, with these images of the two texture units. `size` is the surface's.
+    pub fn draw(
+        &mut self,
+        size: Size,
+        item: &Item,
+        first: Option<&ImageSet>,
+        second: Option<&ImageSet>,
+    )
         requires shaped { IsShaped size self.old }
-        requires drawable { IsDrawable (captured item.now) size }
-        ensures drawn { self.new ≡ drawn (captured item.now ∷ []) self.old }
+        requires drawable { IsDrawable (captured_by item.now (option_copied first) (option_copied second)) size }
+        ensures drawn { self.new ≡ drawn (captured_by item.now (option_copied first.entry) (option_copied second.entry) ∷ []) self.old }
         ensures shaped { IsShaped size self.new }
     {
-        draw_item(item, size, self.tiles.tiles_mut());
+        let images = Images::new(first, second);
+        draw_item(item, &images, size, self.tiles.tiles_mut());
     }
 
     /// The colours of row `y` from the bottom, R G B A for each pixel from the left. `_size` is the surface's.

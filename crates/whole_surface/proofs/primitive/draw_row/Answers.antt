@@ -7,4 +7,4 @@ use Rattle.whole_surface.proofs.primitive.draw_row.Goals as goal
 pub returns-then-bits-eq0 : goal.returns-then-bits-eq0
 returns-then-bits-eq0 c =
     let none : c.args.bits ≡ 0 = omega arith in
-    span_same _ _ _ _ (λ k low high. unshown c.args.prim.now c.args.state.now c.args.rect c.args.r c.args.bits none c.requires.bits k (pixel_in c.args.tile.now k) low high)
+    span_same _ _ _ _ (λ k low high. unshown c.args.prim.now c.args.state.now c.args.images.now.first c.args.images.now.second c.args.rect c.args.r c.args.bits none c.requires.bits k (pixel_in c.args.tile.now k) low high)

@@ -4,7 +4,7 @@ use Rattle.draw_front.specs.Collecting.{Collecting, stepped, with_refusal}
 use Rattle.draw_front.specs.Context.{Context}
 use Rattle.draw_front.specs.Pending.{items_left}
 use Rattle.draw_front.proofs.Refusals.{asked-error, asked-is, line-counted, no-line, refused-line, stepped-refused, OnErr-map, OnOk-map}
-use Rattle.draw_front.proofs.Stepped.{left-of, stepped-ran}
+use Rattle.draw_front.proofs.Stepped.{left-of, left-unversioned, pending-later, stepped-ran}
 use Rattle.draw_front.proofs.front.Front.step.Goals as goal
 
 pub invariant_of-self-in-None : goal.invariant_of-self-in-None
@@ -14,7 +14,12 @@ invariant_of-self-in-None c =
     let most = line-counted inside.context inside.index c.args.rec in
     let before : inside.line_count ≤ inside.index = c.self.invariant.2 in
     let counted : inside.line_count + c.in-Ok.made ≤ c.index_after-index.result = rw (c.in-Ok.ensures.count, c.index_after-index.ensures.value) (omega (arith, most, before)) in
-    (c.self.invariant.0, c.of-pending.ensures.valid none, counted)
+    let later = c.run.new.self in
+    let run : (later, None) ≡ commanded inside.context c.args.rec = sym (ap (λ error. (later, error)) c.in-None.is) ∙ c.in-Ok-run.ensures.run in (
+      c.self.invariant.0,
+      pending-later inside.size inside.context later c.args.rec c.of-pending.result run c.of-pending.ensures.value (c.of-pending.ensures.valid none),
+      counted,
+    )
 
 pub returns-in-Some-clause-answer : goal.returns-in-Some-clause-answer
 returns-in-Some-clause-answer c =
@@ -29,7 +34,7 @@ returns-in-None-clause-asked c =
     let inside = c.self.inside in
     let later = c.run.new.self in
     let run : (later, None) ≡ commanded inside.context c.args.rec = sym (ap (λ error. (later, error)) c.in-None.is) ∙ c.in-Ok-run.ensures.run in
-    let left = ap (items_left inside.size later) c.of-pending.ensures.value ∙ left-of inside.size inside.context later c.args.rec run in
+    let left = sym (left-unversioned inside.size later c.of-pending.result) ∙ ap (items_left inside.size later) c.of-pending.ensures.value ∙ left-of inside.size inside.context later c.args.rec run in
     let before : Collecting = record {
       size = inside.size;
       context = inside.context;

@@ -1,7 +1,7 @@
 use Rattle.std.proofs.Common.{refl}
 use Rattle.draw_front.specs.Context.{Context}
 use Rattle.draw_front.proofs.Stated.{IsOfState, stated-run, stated-unchanged}
-use Rattle.draw_front.proofs.context.Context.run_beside_memory.Goals as goal
+use Rattle.draw_front.proofs.context.Context.run_beside_objects.Goals as goal
 
 pub returns-in_default : goal.returns-in_default
 returns-in_default c =
@@ -11,6 +11,7 @@ returns-in_default c =
       get = c.in_default.not-Get;
       enabled = c.in_default.not-IsEnabled;
       buffer = c.in_default.not-IsBuffer;
+      texture = c.in_default.not-IsTexture;
       pointer = c.in_default.not-VertexPointer;
       normals = c.in_default.not-NormalPointer;
       colors = c.in_default.not-ColorPointer;
@@ -20,11 +21,12 @@ returns-in_default c =
       unit = c.in_default.not-ClientActiveTexture;
       draw = c.in_default.not-DrawArrays;
       elements = c.in_default.not-DrawElements;
-      memory = c.requires;
+      memory = c.requires.memory;
+      textures = c.requires.textures;
       clear = c.in_default.not-Clear;
     } in
     let inside = c.self-in_default.inside in
-    let before : Context = record { state = inside.state; flag = inside.flag; arrays = inside.arrays; regions = inside.regions; buffers = inside.buffers } in
+    let before : Context = record { state = inside.state; flag = inside.flag; arrays = inside.arrays; regions = inside.regions; buffers = inside.buffers; textures = inside.textures } in
     let next : Context = record before { state = c.apply.new.self } in
     record {
       run = stated-run before now next c.args.rec.now c.apply.new.self c.apply.result of c.self-in_default.view_is refl c.apply.ensures.run;
