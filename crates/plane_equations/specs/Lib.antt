@@ -1,0 +1,3 @@
+pub mod FixedPlanes
+pub mod Planes
+pub mod Within
