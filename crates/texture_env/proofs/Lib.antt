@@ -1,8 +1,3 @@
-pub mod Bounds
-pub mod Fogs
-pub mod Neighbors
-pub mod Places
-pub mod Positive
+pub mod Rhos
 pub mod Shaded
-pub mod Sums
 pub mod UnitTexels

@@ -7,8 +7,8 @@ use Rattle.gl_records.specs.Complete.{last_level}
 use Rattle.gl_records.specs.LevelChoice.{chosen}
 use Rattle.gl_records.specs.Sampling.{texel_of}
 use Rattle.gl_records.specs.TextureEnvironment.{image_rho, unit_texel}
-use Rattle.texture_env.specs.declared.coordinates.Coordinates.{Coordinates}
-use Rattle.texture_env.specs.Coordinates.{AreCoordinates}
+use Rattle.interpolation.specs.declared.coordinates.Coordinates.{Coordinates}
+use Rattle.interpolation.specs.Coordinates.{AreCoordinates}
 
 pub texel-is : (unit : UnitState) (set : ImageSet) (p : Primitive) (k : ℕ) (x y : ℤ) (here : Coordinates) (scale : ℕ) → AreCoordinates here p k x y
     → chosen unit.sampler (last_level set) scale ≡ chosen unit.sampler (last_level set) (image_rho set p k x y)

@@ -1,4 +1,3 @@
 pub mod Combining
 pub mod Coordinates
-pub mod Mean
-pub mod Shares
+pub mod Shaders

@@ -1,8 +1,11 @@
 //! The texture functions REPLACE, MODULATE, DECAL, BLEND and ADD (OpenGL ES 1.1.12, 3.7.12).
-ghost use Rattle.std.specs.Prelude.{◌≡◌};
-ghost use Rattle.gl_records.specs.TextureFunction.{added as added_color, blended as blended_color, decaled as decaled_color, has_alpha as has_alpha_of, has_color as has_color_of, kept as kept_components, mixed as mixed_component, modulated as modulated_color, product as product_of, replaced as replaced_color};
+ghost use Rattle.std.specs.Prelude.{◌≡◌, ◌≤◌, ◌*◌, length, slice_index};
+ghost use Rattle.gl_records.specs.Blending.{component_of_products};
+ghost use Rattle.gl_records.specs.Color.{color_of};
+ghost use Rattle.gl_records.specs.TextureFunction.{added as added_color, blended as blended_color, decaled as decaled_color, kept as kept_components, mixed as mixed_component, modulated as modulated_color, product as product_of, replaced as replaced_color};
 
 use gl_tokens::BaseFormat;
+use std::simd::prelude::*;
 
 /// REPLACE: the texel.
 pub fn replaced(format: BaseFormat, incoming: [u8; 4], texel: [u8; 4]) -> [u8; 4]
@@ -15,13 +18,7 @@ pub fn replaced(format: BaseFormat, incoming: [u8; 4], texel: [u8; 4]) -> [u8; 4
 pub fn modulated(format: BaseFormat, incoming: [u8; 4], texel: [u8; 4]) -> [u8; 4]
     ensures { result ≡ modulated_color format incoming texel }
 {
-    let made = [
-        product(incoming[0], texel[0]),
-        product(incoming[1], texel[1]),
-        product(incoming[2], texel[2]),
-        product(incoming[3], texel[3]),
-    ];
-    kept(format, incoming, made)
+    kept(format, incoming, over_255(products(incoming, texel)))
 }
 
 /// BLEND: from the incoming colour to the constant one, by the texel's colour.
@@ -72,28 +69,45 @@ pub fn decaled(format: BaseFormat, incoming: [u8; 4], texel: [u8; 4]) -> [u8; 4]
 fn kept(format: BaseFormat, incoming: [u8; 4], made: [u8; 4]) -> [u8; 4]
     ensures { result ≡ kept_components format incoming made }
 {
-    let (color, alpha) = (has_color(format), has_alpha(format));
-    [
-        if color { made[0] } else { incoming[0] },
-        if color { made[1] } else { incoming[1] },
-        if color { made[2] } else { incoming[2] },
-        if alpha { made[3] } else { incoming[3] },
-    ]
+    match format {
+        BaseFormat::Rgba => [made[0], made[1], made[2], made[3]],
+        BaseFormat::LuminanceAlpha => [made[0], made[1], made[2], made[3]],
+        BaseFormat::Rgb => [made[0], made[1], made[2], incoming[3]],
+        BaseFormat::Luminance => [made[0], made[1], made[2], incoming[3]],
+        BaseFormat::Alpha => [incoming[0], incoming[1], incoming[2], made[3]],
+    }
 }
 
-fn has_color(format: BaseFormat) -> bool
-    ensures { result ≡ has_color_of format }
+/// The products of components.
+fn products(a: [u8; 4], b: [u8; 4]) -> u16x4
+    ensures { result ≡ color_of (λ k. slice_index a k * slice_index b k) }
 {
-    !matches!(format, BaseFormat::Alpha)
+    lanes(a).strict_mul(lanes(b))
 }
 
-fn has_alpha(format: BaseFormat) -> bool
-    ensures { result ≡ has_alpha_of format }
+/// A colour's components, each in a lane of its own.
+fn lanes(color: [u8; 4]) -> u16x4
+    ensures { result ≡ color_of (λ k. slice_index color k) }
 {
-    matches!(
-        format,
-        BaseFormat::Alpha | BaseFormat::Rgba | BaseFormat::LuminanceAlpha
-    )
+    u8x4::from_array(color).cast::<u16>()
+}
+
+/// Products as components, rounded to the nearest.
+fn over_255(products: u16x4) -> [u8; 4]
+    requires length { length products ≡ 4 }
+    requires red { slice_index products 0 ≤ 65025 }
+    requires green { slice_index products 1 ≤ 65025 }
+    requires blue { slice_index products 2 ≤ 65025 }
+    requires alpha { slice_index products 3 ≤ 65025 }
+    ensures { result ≡ color_of (λ k. component_of_products (slice_index products k)) }
+{
+    let halves_up = products.strict_add(u16x4::splat(127));
+    (halves_up
+        .strict_add(u16x4::splat(1))
+        .strict_add(halves_up >> 8)
+        >> 8)
+        .cast::<u8>()
+        .to_array()
 }
 
 /// The product of two components.

@@ -9,23 +9,21 @@
 //! ```
 #![tactic(auto)]
 
-mod color;
 mod combine;
 #[cfg(test)]
 mod combine_tests;
-mod coordinates;
-mod coordinates_at;
 mod environment;
 #[cfg(test)]
 mod environment_tests;
 mod fog;
 mod functions;
 mod moves;
+mod shader;
 mod shading;
 #[cfg(test)]
 mod shading_tests;
-mod shares;
-mod sharing;
+mod tile_unit;
 mod unit;
 
+pub use shader::{Shader, TileShader};
 pub use shading::shade;

@@ -3,15 +3,13 @@
 ghost use Rattle.std.specs.Prelude.{◌≡◌, ℤ, pos, ◌<◌, ◌^◌};
 ghost use Rattle.gl_records.specs.LevelOfDetail.{moved as moved_along, rho as rho_of};
 ghost use Rattle.gl_records.specs.Valid.{IsInRange};
-ghost use Rattle.texture_env.specs.Coordinates.{AreCoordinates, greatest_move as greatest_of, move_between as between};
-ghost use Rattle.texture_env.specs.Shares.{AreShares, AreSmall};
+ghost use Rattle.interpolation.specs.Coordinates.{AreCoordinates};
+ghost use Rattle.texture_env.specs.Coordinates.{greatest_move as greatest_of, move_between as between};
+ghost use Rattle.interpolation.specs.Shares.{AreShares, AreSmall};
 
-use crate::coordinates::Coordinates;
-use crate::coordinates_at::coordinates_at;
-use crate::shares::Shares;
-use crate::sharing::{beyond, shares_at};
 use fx_arith::{Fx, span};
 use gl_records::{Prim, PrimKind};
+use interpolation::{Coordinates, Shares, beyond, coordinates_at, shares_at};
 
 /// Rho of a unit where the corners have these shares and the unit these coordinates, in 1/65536 texel of a level 0 of
 /// `w` by `h` texels.
@@ -38,7 +36,13 @@ pub fn rho(prim: &Prim, unit: usize, w: u16, h: u16, shares: &Shares, here: Coor
 }
 
 /// The greatest move from `here` to the next pixels, and 0 where one of the coordinates isn't known.
-fn greatest_move(w: u16, h: u16, here: Coordinates, right: Coordinates, above: Coordinates) -> u64
+pub fn greatest_move(
+    w: u16,
+    h: u16,
+    here: Coordinates,
+    right: Coordinates,
+    above: Coordinates,
+) -> u64
     ensures { result ≡ greatest_of w h here right above }
 {
     if here.known && right.known && above.known {

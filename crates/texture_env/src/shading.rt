@@ -5,11 +5,10 @@ ghost use Rattle.gl_records.specs.Coverage.{covers};
 ghost use Rattle.gl_records.specs.Shading.{AreReadable, shaded};
 ghost use Rattle.gl_records.specs.Valid.{IsInRange};
 
-use crate::color::interpolated_color;
 use crate::fog::fogged;
-use crate::sharing::shares_at;
 use crate::unit::textured;
 use gl_records::{FragState, ImageSet, Prim};
+use interpolation::{interpolated_color, shares_at};
 
 /// The colour of a primitive at pixel (x, y), which it covers, in a state of fragments with the images of the two units
 /// (OpenGL ES 1.1.12, 3.7 and 3.8).

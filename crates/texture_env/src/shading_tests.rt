@@ -5,7 +5,7 @@ ghost use Rattle.gl_records.specs.Shading.{IsReadable};
 ghost use Rattle.gl_records.specs.Valid.{IsCornerInRange, IsInRange};
 
 use crate::environment_tests::{COLOR, CONSTANT, PREVIOUS, PRIMARY, TEXEL, UNIT, unit};
-use crate::shade;
+use crate::{Shader, shade};
 use coverage::rows;
 use gl_records::{
     Combine, Env, FragState, ImageSet, Level, PixelBox, Prim, PrimKind, Sampler, Texels, TileRect,
@@ -94,7 +94,7 @@ fn is_readable(unit: &Option<UnitState>, image: Option<&ImageSet>) -> bool
     }
 }
 
-/// The colour at a pixel of the first tile, which the primitive has to cover.
+/// The colour at a pixel of the first tile, which the primitive has to cover: prepared for the tile, and plain.
 fn shaded(
     rt: &impl Abort,
     state: &FragState,
@@ -109,9 +109,14 @@ fn shaded(
     let (x, y) = (x.min(15), y.min(15));
     assert!(rt; is_readable(&state.units[0], first));
     assert!(rt; is_readable(&state.units[1], second));
-    let row = rows(prim, TileRect { x0: 0, y0: 0 })[usize::from(y)];
+    let tile = TileRect { x0: 0, y0: 0 };
+    let row = rows(prim, tile)[usize::from(y)];
     if row >> x & 1 == 1 {
-        shade(state, first, second, prim, i32::from(x), i32::from(y))
+        let shader = Shader::new(state, first, second, prim);
+        let prepared = shader.on_tile(tile).color(u16::from(x), u16::from(y));
+        let plain = shade(state, first, second, prim, i32::from(x), i32::from(y));
+        assert_eq!(rt; prepared, plain);
+        prepared
     } else {
         [0; 4]
     }

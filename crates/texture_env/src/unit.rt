@@ -6,15 +6,13 @@ ghost use Rattle.gl_records.specs.LevelChoice.{chosen};
 ghost use Rattle.gl_records.specs.Shading.{IsReadable};
 ghost use Rattle.gl_records.specs.TextureEnvironment.{height_of, image_rho, textured as textured_color, unit_texel as texel_of_unit, width_of};
 ghost use Rattle.gl_records.specs.Valid.{IsInRange};
-ghost use Rattle.texture_env.specs.Coordinates.{AreCoordinates};
-ghost use Rattle.texture_env.specs.Shares.{AreShares, AreSmall};
+ghost use Rattle.interpolation.specs.Coordinates.{AreCoordinates};
+ghost use Rattle.interpolation.specs.Shares.{AreShares, AreSmall};
 
-use crate::coordinates::Coordinates;
-use crate::coordinates_at::coordinates_at;
 use crate::environment::environment;
 use crate::moves::rho;
-use crate::shares::Shares;
 use gl_records::{ImageSet, Level, Prim, Sampler, UnitState, last_level};
+use interpolation::{Coordinates, Shares, coordinates_at};
 use texel_sampler::{asks_for_rho, texel};
 
 /// The colour behind unit `k`, where the corners have these shares. A unit that is off, or has no image, leaves the
@@ -85,7 +83,7 @@ fn asked_rho(
     )
 }
 
-fn width(level: &Option<Level>) -> u16
+pub fn width(level: &Option<Level>) -> u16
     ensures { result ≡ width_of level.now }
 {
     match level {
@@ -94,7 +92,7 @@ fn width(level: &Option<Level>) -> u16
     }
 }
 
-fn height(level: &Option<Level>) -> u16
+pub fn height(level: &Option<Level>) -> u16
     ensures { result ≡ height_of level.now }
 {
     match level {

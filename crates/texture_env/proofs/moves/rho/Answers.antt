@@ -1,9 +1,9 @@
 use Rattle.std.proofs.Common.{arith, ◌∙◌}
 use Rattle.std.specs.Prelude.{pos, ◌+ℤ◌}
 use Rattle.std.proofs.lemmas.Int.{ints}
-use Rattle.texture_env.proofs.Bounds.{HasSmallWeights-near, IsNear}
-use Rattle.texture_env.proofs.Neighbors.{AreShares-above, AreShares-next, AreShares-right}
-use Rattle.texture_env.proofs.Places.{rho-moves, rho-point}
+use Rattle.interpolation.proofs.Bounds.{HasSmallWeights-near, IsNear}
+use Rattle.interpolation.proofs.Neighbors.{AreShares-above, AreShares-next, AreShares-right}
+use Rattle.texture_env.proofs.Rhos.{rho-moves, rho-point}
 use Rattle.texture_env.proofs.moves.rho.Goals as goal
 
 zero : IsNear (pos 0)

@@ -1,9 +1,9 @@
 use Rattle.std.proofs.Common.{FitsSigned, w32}
 use Rattle.std.specs.Option.{option_copied}
 use Rattle.std.proofs.lemmas.Int.{to_z-of_z}
-use Rattle.texture_env.specs.Shares.{AreShares}
-use Rattle.texture_env.proofs.Bounds.{HasSmallWeights-covered}
-use Rattle.texture_env.proofs.Positive.{ArePositive-covered}
+use Rattle.interpolation.specs.Shares.{AreShares}
+use Rattle.interpolation.proofs.Bounds.{HasSmallWeights-covered}
+use Rattle.interpolation.proofs.Positive.{ArePositive-covered}
 use Rattle.texture_env.proofs.Shaded.{shaded-is}
 use Rattle.texture_env.proofs.shading.shade.Goals as goal
 

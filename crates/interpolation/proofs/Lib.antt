@@ -1,0 +1,10 @@
+pub mod Bounds
+pub mod Colors
+pub mod Factors
+pub mod Fogs
+pub mod Frames
+pub mod Neighbors
+pub mod Places
+pub mod Positive
+pub mod Scaled
+pub mod Sums

@@ -1,0 +1,12 @@
+use Rattle.std.proofs.Common.{sym, FitsSigned, w32}
+use Rattle.std.proofs.lemmas.Int.{to_z-of_z}
+use Rattle.gl_records.specs.TextureCoordinate.{corner_coordinate}
+use Rattle.interpolation.proofs.frame.Frame.coordinate_of.Goals as goal
+
+pub returns : goal.returns
+returns c =
+    let a_fits : FitsSigned w32 c.args.a = c.ranges.a in
+    let b_fits : FitsSigned w32 c.args.b = c.ranges.b in
+    let c_fits : FitsSigned w32 c.args.c = c.ranges.c in
+    c.ratio.ensures (corner_coordinate c.args._unit c.args._k)
+    (simp to_z-of_z (sym c.requires.first)) (simp to_z-of_z (sym c.requires.second)) (simp to_z-of_z (sym c.requires.third))

@@ -1,0 +1,6 @@
+pub mod Coordinates
+pub mod Factors
+pub mod Frames
+pub mod Mean
+pub mod Shares
+pub mod TileValues
