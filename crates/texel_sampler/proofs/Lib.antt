@@ -3,6 +3,6 @@ pub mod Asking
 pub mod Blends
 pub mod Choices
 pub mod Examples
-pub mod Mantissas
+pub mod Leading
 pub mod Masks
 pub mod Weighted

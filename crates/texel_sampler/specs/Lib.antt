@@ -1,1 +1,2 @@
 pub use Rattle.gl_records.specs.Sampling
+pub mod FourTexels

@@ -16,20 +16,28 @@ pub fn lambda(rho: u64) -> i32
         -32768
     } else {
         let place = top_bit(rho);
-        256 * (place as i32 - 16) + mantissa(rho - (1 << place), place) as i32
+        256 * (place as i32 - 16) + mantissa(rho, place) as i32
     }
 }
 
-/// What a number of `2^place + rest` is beyond the power, in 1/256 of the power, rounded down.
-fn mantissa(rest: u64, place: u32) -> u32
+/// What a number is beyond its highest bit, which has this place, in 1/256 of it, rounded down.
+fn mantissa(n: u64, place: u32) -> u32
     requires place { place < 64 }
-    requires rest { rest < 2 ^ place }
-    ensures value { result ≡ rest * 256 / 2 ^ place }
+    requires at_least { 2 ^ place ≤ n }
+    requires below { n < 2 ^ (place + 1) }
+    ensures value { result ≡ (n - 2 ^ place) * 256 / 2 ^ place }
     ensures bound { result < 256 }
 {
-    if place < 8 {
-        (rest << (8 - place)) as u32
-    } else {
-        (rest >> (place - 8)) as u32
-    }
+    leading(n, place) - 256
+}
+
+/// The nine leading bits.
+fn leading(n: u64, place: u32) -> u32
+    requires place { place < 64 }
+    requires at_least { 2 ^ place ≤ n }
+    requires below { n < 2 ^ (place + 1) }
+    ensures value { result ≡ 256 + (n - 2 ^ place) * 256 / 2 ^ place }
+    ensures bound { result < 512 }
+{
+    ((n << (63 - place)) >> 55) as u32
 }

@@ -12,6 +12,7 @@
 mod blending;
 mod choice;
 mod detail;
+mod lanes;
 mod level_texel;
 mod linear;
 mod nearest;

@@ -1,11 +1,11 @@
 //! LINEAR: the four texels about the coordinates, each by how near it is.
-ghost use Rattle.std.specs.Prelude.{◌≡◌, ◌≤◌, ◌<◌, ◌^◌, ◌+◌, ◌-◌, ◌*◌, ◌/◌, ◌+ℤ◌, pos, false, unsigned_abs};
-ghost use Rattle.gl_records.specs.Color.{color_of};
+ghost use Rattle.std.specs.Prelude.{◌≡◌, ◌≤◌, ◌<◌, ◌^◌, false, unsigned_abs};
 ghost use Rattle.gl_records.specs.Complete.{is_empty_level};
-ghost use Rattle.gl_records.specs.Texel.{fraction as fraction_of, linear_about as linear_around, linear_place as linear_along, linear_texel as linear_of, lower as lower_of, weighted as weighted_component};
+ghost use Rattle.gl_records.specs.Texel.{fraction as fraction_of, linear_about as linear_around, linear_place as linear_along, linear_texel as linear_of, lower as lower_of};
 
-use crate::nearest::{along, texel_about};
-use crate::wrapping::masked;
+use crate::lanes::weighted;
+use crate::nearest::{along, texel_in};
+use crate::wrapping::{masked, wrapped_pair};
 use fx_arith::Fx;
 use gl_records::{Level, Sampler};
 
@@ -37,13 +37,15 @@ fn linear_about(sampler: Sampler, level: &Level, u: i64, v: i64) -> [u8; 4]
     ensures { result ≡ linear_around sampler level.now u v }
 {
     let (i, j) = (lower(u), lower(v));
+    let (left, right) = wrapped_pair(sampler.wrap_s, level.w, i);
+    let (under, over) = wrapped_pair(sampler.wrap_t, level.h, j);
     weighted(
         fraction(u),
         fraction(v),
-        texel_about(sampler, level, i, j),
-        texel_about(sampler, level, i + 1, j),
-        texel_about(sampler, level, i, j + 1),
-        texel_about(sampler, level, i + 1, j + 1),
+        texel_in(level, left, under),
+        texel_in(level, right, under),
+        texel_in(level, left, over),
+        texel_in(level, right, over),
     )
 }
 
@@ -61,38 +63,4 @@ fn fraction(place: i64) -> u8
     ensures { result ≡ fraction_of place }
 {
     masked(256, place) as u8
-}
-
-/// The four texels weighted: the higher columns count `a`, the higher rows `b`, in 1/256.
-fn weighted(
-    a: u8,
-    b: u8,
-    low_low: [u8; 4],
-    high_low: [u8; 4],
-    low_high: [u8; 4],
-    high_high: [u8; 4],
-) -> [u8; 4]
-    ensures { result ≡ color_of (weighted_component a b low_low high_low low_high high_high) }
-{
-    [
-        component(a, b, low_low[0], high_low[0], low_high[0], high_high[0]),
-        component(a, b, low_low[1], high_low[1], low_high[1], high_high[1]),
-        component(a, b, low_low[2], high_low[2], low_high[2], high_high[2]),
-        component(a, b, low_low[3], high_low[3], low_high[3], high_high[3]),
-    ]
-}
-
-/// One component of the four texels weighted, rounded to the nearest.
-fn component(a: u8, b: u8, low_low: u8, high_low: u8, low_high: u8, high_high: u8) -> u8
-    ensures { result
-        ≡ ((256 - a) * (256 - b) * low_low + a * (256 - b) * high_low + (256 - a) * b * low_high + a * b * high_high + 32768)
-        / 65536 }
-{
-    let (higher, upper) = (u32::from(a), u32::from(b));
-    let (lower, under) = (256 - higher, 256 - upper);
-    let sum = lower * under * u32::from(low_low)
-        + higher * under * u32::from(high_low)
-        + lower * upper * u32::from(low_high)
-        + higher * upper * u32::from(high_high);
-    ((sum + 32768) / 65536) as u8
 }

@@ -1,5 +1,5 @@
 //! NEAREST: the texel in which the coordinates lie.
-ghost use Rattle.std.specs.Prelude.{◌≡◌, pos, ◌≤◌, ◌<◌, ◌^◌, ◌*◌, ◌*ℤ◌, false, length, unsigned_abs};
+ghost use Rattle.std.specs.Prelude.{◌≡◌, pos, ◌≤◌, ◌<◌, ◌^◌, ◌*◌, ◌*ℤ◌, ◌+◌, false, slice_index, unsigned_abs};
 ghost use Rattle.fx_arith.specs.Number.{floor_div};
 ghost use Rattle.gl_records.specs.Complete.{is_empty_level};
 ghost use Rattle.gl_records.specs.Texel.{nearest_place as nearest_along, nearest_texel as nearest_of, texel_about as texel_around, texel_at as texel_of_level};
@@ -50,11 +50,21 @@ pub fn texel_about(sampler: Sampler, level: &Level, i: i64, j: i64) -> [u8; 4]
 
 /// The texel in a column and a row, R G B A.
 fn texel_at(level: &Level, column: u16, row: u16) -> [u8; 4]
-    requires texels { length level.now.texels ≡ level.now.w * level.now.h }
+    requires texels { is_empty_level level.now ≡ false }
     requires column { column < level.now.w }
     requires row { row < level.now.h }
     ensures { result ≡ texel_of_level level.now column row }
 {
+    texel_in(level, column, row).to_le_bytes()
+}
+
+/// The texel in a column and a row as a word, R lowest.
+pub fn texel_in(level: &Level, column: u16, row: u16) -> u32
+    requires texels { is_empty_level level.now ≡ false }
+    requires column { column < level.now.w }
+    requires row { row < level.now.h }
+    ensures { result ≡ slice_index level.now.texels (row * level.now.w + column) }
+{
     let texels = level.texels.as_slice();
-    texels[usize::from(row) * usize::from(level.w) + usize::from(column)].to_le_bytes()
+    texels[usize::from(row) * usize::from(level.w) + usize::from(column)]
 }
