@@ -1,6 +1,6 @@
 -- Bits of rows under a box.
 use Rattle.std.proofs.Common.{◌≡◌, ◌<◌, ◌+◌, ◌-◌, ◌*◌, ◌/◌, ◌≤◌, ◌%◌, ℕ, Bool, true, false, ◌&&◌, refl, arith, min}
-use Rattle.std.specs.Prelude.{Option, if◌then◌else◌, bit_and, bit_or, bit_xor}
+use Rattle.std.specs.Prelude.{List, slice_index, Option, if◌then◌else◌, bit_and, bit_or, bit_xor}
 use Rattle.std.specs.Int.Bits.{and_zero_r, or_zero_l}
 use Rattle.std.proofs.lemmas.Bool.{false≢true}
 use Rattle.std.proofs.lemmas.Nat.{and_mask}
@@ -10,10 +10,11 @@ use Rattle.gl_records.specs.declared.frag_state.FragState.{FragState}
 use Rattle.gl_records.specs.declared.level.ImageSet.{ImageSet}
 use Rattle.gl_records.specs.declared.pixel.Pixel.{Pixel}
 use Rattle.gl_records.specs.declared.prim.Primitive.{Primitive}
-use Rattle.gl_records.specs.declared.tile.TileRect.{TileRect}
 use Rattle.gl_records.specs.Captured.{Draw}
 use Rattle.gl_records.specs.After.{step}
-use Rattle.whole_surface.specs.Parts.{shown, tile_step}
+use Rattle.texture_env.specs.Shaders.{OnTile}
+use Rattle.whole_surface.specs.Parts.{shown}
+use Rattle.whole_surface.specs.Subjects.{shown_on, step_on}
 
 -- a bit under a column's bit, in a row that the box has
 pub held_bit : (column low high : Bool) (bit : ℕ) → bit < 2 → low ≡ true → high ≡ true
@@ -46,14 +47,24 @@ step-unshown : (prim : Primitive) (state : FragState) (first second : Option Ima
     → step (Draw prim state first second) x y pixel ≡ pixel
 step-unshown prim state first second x y pixel h = rw h refl
 
-pub unshown : (prim : Primitive) (state : FragState) (first second : Option ImageSet) (rect : TileRect) (r bits : ℕ) → bits ≡ 0
-    → ((i : ℕ) → i < 16 → bit_at bits i ≡ (if shown prim state (rect.x0 + i) (rect.y0 + r) then 1 else 0))
-    → (k : ℕ) (pixel : Pixel) → 16 * r ≤ k → k < 16 * r + 16 → tile_step (Draw prim state first second) rect k pixel ≡ pixel
-unshown prim state first second rect r bits none told k pixel low high =
+pub unshown : (on : OnTile) (r bits : ℕ) → bits ≡ 0
+    → ((i : ℕ) → i < 16 → bit_at bits i ≡ (if shown_on on i r then 1 else 0))
+    → (k : ℕ) (pixel : Pixel) → 16 * r ≤ k → k < 16 * r + 16 → step_on on k pixel ≡ pixel
+unshown on r bits none told k pixel low high =
+    let s = on.subject in
     let i = k - 16 * r in
     let less : i < 16 = omega arith in
     let column : i ≡ k % 16 = omega arith in
     let row : r ≡ k / 16 = omega arith in
     let zero : bit_at bits i ≡ 0 = rw none (bit_at-zero i) in
-    let off : shown prim state (rect.x0 + i) (rect.y0 + r) ≡ false = clear_bit _ (bit_at bits i) (told i less) zero in
-    step-unshown prim state first second (rect.x0 + k % 16) (rect.y0 + k / 16) pixel (rw (column, row) at off)
+    let off : shown s.prim s.state (on.rect.x0 + i) (on.rect.y0 + r) ≡ false = clear_bit _ (bit_at bits i) (told i less) zero in
+    step-unshown s.prim s.state s.first s.second (on.rect.x0 + k % 16) (on.rect.y0 + k / 16) pixel (rw (column, row) at off)
+
+-- the same of a whole tile
+pub all_unshown : (on : OnTile) (rows : List ℕ) → ((r : ℕ) → r < 16 → slice_index rows r ≡ 0)
+    → ((r i : ℕ) → r < 16 → i < 16 → bit_at (slice_index rows r) i ≡ (if shown_on on i r then 1 else 0))
+    → (k : ℕ) (pixel : Pixel) → k < 256 → step_on on k pixel ≡ pixel
+all_unshown on rows none told k pixel within =
+    let r = k / 16 in
+    let less : r < 16 = omega arith in
+    unshown on r (slice_index rows r) (none r less) (λ i inside. told r i less inside) k pixel (omega arith) (omega arith)

@@ -1,6 +1,6 @@
 pub mod Bits
-pub mod Painted
-pub mod ShadeLemmas
+pub mod Means
 pub mod Spans
+pub mod Sums
 pub mod TileLemmas
 pub mod Unshaded

@@ -1,5 +1,6 @@
-pub mod Flat
-pub mod Mean
+pub mod Items
 pub mod Paints
 pub mod Parts
+pub mod Stages
+pub mod Subjects
 pub mod UnitImages

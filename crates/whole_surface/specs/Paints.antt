@@ -1,24 +1,24 @@
 -- What an item fixes for all of the pixels that it touches.
-use Rattle.std.specs.Prelude.{◌≡◌, ℕ, pos, Bool, false, ◌&&◌, ◌||◌, List, IfSome, IsTrue, is_none, is_some, slice_index_or, unwrap_or}
+use Rattle.std.specs.Prelude.{◌≡◌, ℕ, pos, Bool, ◌||◌, List, IsTrue, is_some, unwrap_or}
 use Rattle.gl_records.specs.declared.clear.ClearItem.{ClearItem}
 use Rattle.gl_records.specs.declared.frag_state.FragState.{FragState}
 use Rattle.gl_records.specs.declared.pixel.Pixel.{Pixel}
 use Rattle.gl_records.specs.declared.prim.Primitive.{Primitive}
-use Rattle.gl_records.specs.Captured.{Captured, Draw, Clear}
 use Rattle.gl_records.specs.Clear.{clear_step}
 use Rattle.gl_records.specs.Coverage.{covers}
-use Rattle.gl_records.specs.Shading.{AreReadable, shaded, unit_at}
-use Rattle.whole_surface.specs.declared.paint.Colors.{Colors}
-use Rattle.whole_surface.specs.declared.paint.Colors.TheVariants.{One, Mean, Shaded}
-use Rattle.whole_surface.specs.declared.paint.Paint.{Paint}
+use Rattle.gl_records.specs.Depth.{depth}
+use Rattle.gl_records.specs.Interpolation.{interpolated_color}
+use Rattle.gl_records.specs.Shading.{unit_at}
+use Rattle.gl_records.specs.Valid.{IsInRange}
+use Rattle.texture_env.specs.Shaders.{Subject, color_of}
+use Rattle.whole_surface.specs.declared.drawing.Colors.{Colors}
+use Rattle.whole_surface.specs.declared.drawing.Colors.TheVariants as colors
+use Rattle.whole_surface.specs.declared.drawing.Depths.{Depths}
+use Rattle.whole_surface.specs.declared.drawing.Depths.TheVariants as depths
+use Rattle.whole_surface.specs.declared.stages.Finish.{Finish}
+use Rattle.whole_surface.specs.declared.stages.Tests.{Tests}
 use Rattle.whole_surface.specs.declared.wipe.Wipe.{Wipe}
-use Rattle.whole_surface.specs.UnitImages.{UnitImages}
-
--- nothing is on, and each component of the colour is written
-abbrev pub is_plain : FragState → Bool
-is_plain state =
-    is_none state.alpha && is_none state.stencil && is_none state.depth && is_none state.blend && is_none state.logic
-    && slice_index_or state.mask 0 false && slice_index_or state.mask 1 false && slice_index_or state.mask 2 false && slice_index_or state.mask 3 false
+use Rattle.whole_surface.specs.Stages.{AreTestsOf, IsFinishOf}
 
 -- the pixel with the parts that are there in place of its own
 abbrev pub wiped : Wipe → Pixel → Pixel
@@ -31,20 +31,28 @@ IsWipeOf clear wipe = (pixel : Pixel) → wiped wipe pixel ≡ clear_step clear 
 abbrev pub is_shaded : FragState → Bool
 is_shaded state = is_some (unit_at state 0) || is_some (unit_at state 1) || is_some state.fog
 
+-- each pixel that the primitive covers has this colour before texturing
+abbrev pub IsColorOf : Primitive → List ℕ → Type 0
+IsColorOf p color = (x y : ℕ) → IsTrue (covers p (pos x) (pos y)) → interpolated_color p (pos x) (pos y) ≡ color
+
 -- each pixel that the primitive covers has this colour, behind textures and fog
-abbrev pub IsShadedAs : Primitive → FragState → UnitImages → List ℕ → Type 0
-IsShadedAs prim state images color =
-    (x y : ℕ) → IsTrue (covers prim (pos x) (pos y)) → shaded state images.first images.second prim (pos x) (pos y) ≡ color
+abbrev pub IsShadedAs : Subject → List ℕ → Type 0
+IsShadedAs subject color = (x y : ℕ) → IsTrue (covers subject.prim (pos x) (pos y)) → color_of subject x y ≡ color
 
--- what is known of the colours of a primitive: they are one; they are means of the corners'; or they are of textures, whose
--- images can be read, and of fog
-abbrev pub AreColorsOf : Colors → Primitive → FragState → UnitImages → Type 0
-AreColorsOf (One color) prim state images = IsShadedAs prim state images color
-AreColorsOf Mean prim state images = is_shaded state ≡ false
-AreColorsOf Shaded prim state images = AreReadable state images.first images.second
+-- what is known of the colours of a primitive: they are one, or a shader finds them
+abbrev pub AreColorsOf : Colors → Subject → Type 0
+AreColorsOf (colors.One color) subject = IsShadedAs subject color
+AreColorsOf (colors.Shaded shader) subject = shader ≡ subject
 
--- the paint fits the item
-abbrev pub IsPaintOf : Paint → Captured → Type 0
-IsPaintOf paint (Draw prim state first second) =
-    (paint.plain ≡ is_plain state) × AreColorsOf paint.colors prim state (record { first = first; second = second })
-IsPaintOf paint (Clear clear) = IfSome paint.wipe (IsWipeOf clear)
+-- what is known of its depths: they are one, or nothing
+abbrev pub AreDepthsOf : Depths → Primitive → Type 0
+AreDepthsOf (depths.One z) p = (x y : ℕ) → IsTrue (covers p (pos x) (pos y)) → depth p (pos x) (pos y) ≡ z
+AreDepthsOf depths.Sloped p = Unit {0}
+
+-- these fit a primitive with its state and images
+pub record IsDrawing (subject : Subject) (found : Colors) (deep : Depths) (asked : Tests) (made : Finish) : Type 0 where
+  pub in_range : IsInRange subject.prim
+  pub colors_fit : AreColorsOf found subject
+  pub depths_fit : AreDepthsOf deep subject.prim
+  pub tests_fit : AreTestsOf asked subject.state
+  pub finish_fits : IsFinishOf made subject.state

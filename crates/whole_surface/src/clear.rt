@@ -7,10 +7,50 @@ ghost use Rattle.whole_surface.specs.Parts.{IsSpan, tile_step};
 use crate::wipe::Wipe;
 use fragment_ops::clear_step;
 use gl_records::{ClearItem, GREATEST_SIDE, TileRect};
+use std::marker::Model;
 use surface_tiles::Tile;
 
-/// Clears the pixels of the tile that the area holds.
-pub fn clear_on_tile(clear: &ClearItem, wipe: &Option<Wipe>, rect: TileRect, tile: &mut Tile)
+/// A Clear, and what it makes of each pixel where its masks keep no bit.
+#[derive(Drop)]
+pub struct Clearing<'a> {
+    pub clear: &'a ClearItem,
+    pub wipe: Option<Wipe>,
+}
+
+impl<'a> Model for Clearing<'a> {
+    ghost use Rattle.std.specs.Prelude.{IfSome};
+    ghost use Rattle.gl_records.specs.declared.clear.ClearItem.{ClearItem};
+
+    ghost Value = { ClearItem };
+
+    ghost use Rattle.whole_surface.specs.Paints.{IsWipeOf};
+
+    ghost view = { λ c. c.clear.now };
+
+    ghost invariant = { λ c. IfSome c.wipe (IsWipeOf c.clear.now) };
+}
+
+impl<'a> Clearing<'a> {
+    pub fn of(clear: &'a ClearItem) -> Clearing<'a>
+        ensures { result ≡ clear.now }
+    {
+        Clearing {
+            clear,
+            wipe: Wipe::of(clear),
+        }
+    }
+
+    /// Clears the pixels of the tile that the area holds.
+    pub fn clear_on_tile(&self, rect: TileRect, tile: &mut Tile)
+        requires column { rect.x0 ≤ GREATEST_SIDE }
+        requires band { rect.y0 ≤ GREATEST_SIDE }
+        ensures { IsSpan (tile_step (Clear self.now) rect) 0 256 tile.old tile.new }
+    {
+        clear_rows(self.clear, &self.wipe, rect, tile);
+    }
+}
+
+fn clear_rows(clear: &ClearItem, wipe: &Option<Wipe>, rect: TileRect, tile: &mut Tile)
     requires wipe { IfSome wipe.now (IsWipeOf clear.now) }
     requires column { rect.x0 ≤ GREATEST_SIDE }
     requires band { rect.y0 ≤ GREATEST_SIDE }

@@ -1,11 +1,11 @@
 //! The images that an item is drawn with.
-ghost use Rattle.std.specs.Prelude.{◌≡◌, pos, IsTrue, option_copied};
-ghost use Rattle.gl_records.specs.Coverage.{covers};
-ghost use Rattle.gl_records.specs.Shading.{AreReadable, shaded};
+ghost use Rattle.std.specs.Prelude.{◌≡◌, option_copied};
+ghost use Rattle.gl_records.specs.Shading.{AreReadable};
 ghost use Rattle.gl_records.specs.Valid.{IsInRange};
 
 use gl_records::{FragState, ImageSet, Prim};
 use std::marker::Model;
+use texture_env::Shader;
 
 /// The images of both texture units, lent for an item.
 #[derive(Drop)]
@@ -31,20 +31,12 @@ impl<'a> Images<'a> {
         Images { first, second }
     }
 
-    /// The colour of the primitive at pixel (x, y), which it covers, with these images.
-    pub fn shade(&self, prim: &Prim, state: &FragState, x: u16, y: u16) -> [u8; 4]
+    /// What finds the colours of the primitive with these images.
+    pub fn shader(&self, prim: &'a Prim, state: &'a FragState) -> Shader<'a>
         requires in_range { IsInRange prim.now }
-        requires covered { IsTrue (covers prim.now (pos x) (pos y)) }
         requires readable { AreReadable state.now self.now.first self.now.second }
-        ensures { result ≡ shaded state.now self.now.first self.now.second prim.now (pos x) (pos y) }
+        ensures { result ≡ record { state = state.now; first = self.now.first; second = self.now.second; prim = prim.now } }
     {
-        texture_env::shade(
-            state,
-            self.first,
-            self.second,
-            prim,
-            i32::from(x),
-            i32::from(y),
-        )
+        Shader::new(state, self.first, self.second, prim)
     }
 }

@@ -6,15 +6,12 @@ ghost use Rattle.gl_records.specs.Surface.{drawn};
 ghost use Rattle.gl_records.specs.Tiles.{tile_count, tiles_along as tiles_along_of};
 ghost use Rattle.gl_records.specs.Valid.{IsDrawable};
 ghost use Rattle.surface_tiles.specs.Tiled.{surface_of};
-ghost use Rattle.whole_surface.specs.Paints.{IsPaintOf};
-ghost use Rattle.whole_surface.specs.Parts.{AreDrawn, HoldsColumns, HoldsRows, IsSpan, box_of, tile_step};
-ghost use Rattle.whole_surface.specs.UnitImages.{item_with};
+ghost use Rattle.whole_surface.specs.Items.{item_of};
+ghost use Rattle.whole_surface.specs.Parts.{AreDrawn, HoldsColumns, HoldsRows, box_of};
 
-use crate::clear::clear_on_tile;
 use crate::images::Images;
 use crate::paint::Paint;
-use crate::primitive::draw_on_tile;
-use gl_records::{GREATEST_SIDE, Item, PixelBox, Size, TileRect};
+use gl_records::{GREATEST_SIDE, Item, Size, TileRect};
 use surface_tiles::Tile;
 
 /// Draws the item with these images on the tiles of a surface of this size.
@@ -27,20 +24,10 @@ pub fn draw_item(item: &Item, images: &Images<'_>, size: Size, tiles: &mut [Tile
     ensures count { length tiles.new ≡ tile_count size }
 {
     let paint = Paint::of(item, images, size);
-    let area = box_of_item(item, images);
+    let area = paint.area(size);
     let columns = tiles_of(area.x0, area.x1);
     let bands = tiles_of(area.y0, area.y1);
-    draw_bands(item, images, &paint, size, columns, bands, tiles);
-}
-
-/// The box that holds all that the item touches.
-fn box_of_item(item: &Item, _images: &Images<'_>) -> PixelBox
-    ensures { result ≡ box_of (item_with item.now _images.now) }
-{
-    match item {
-        Item::Draw(prim, _) => prim.bounds,
-        Item::Clear(clear) => clear.area,
-    }
+    draw_bands(&paint, size, columns, bands, tiles);
 }
 
 /// Tiles that lie side by side, numbered along the surface.
@@ -69,73 +56,45 @@ fn tiles_of(from: i32, to: i32) -> Span
     }
 }
 
-fn draw_bands(
-    item: &Item,
-    images: &Images<'_>,
-    paint: &Paint,
-    size: Size,
-    columns: Span,
-    bands: Span,
-    tiles: &mut [Tile],
-)
+fn draw_bands(paint: &Paint<'_>, size: Size, columns: Span, bands: Span, tiles: &mut [Tile])
     requires sides { IsSize size }
-    requires drawable { IsDrawable (item_with item.now images.now) size }
-    requires paint { IsPaintOf paint.now (item_with item.now images.now) }
+    requires drawable { IsDrawable (item_of paint.now) size }
     requires count { length tiles.old ≡ tile_count size }
-    requires columns { HoldsColumns (box_of (item_with item.now images.now)) columns.first columns.end }
-    requires bands { HoldsRows (box_of (item_with item.now images.now)) bands.first bands.end }
+    requires columns { HoldsColumns (box_of (item_of paint.now)) columns.first columns.end }
+    requires bands { HoldsRows (box_of (item_of paint.now)) bands.first bands.end }
     requires across { columns.end ≤ tiles_along_of size.w }
     requires up { bands.end ≤ tiles_along_of size.h }
     requires some_column { columns.first ≤ columns.end }
     requires some_band { bands.first ≤ bands.end }
-    ensures { AreDrawn (item_with item.now images.now) size 0 (tile_count size) tiles.old tiles.new }
+    ensures { AreDrawn (item_of paint.now) size 0 (tile_count size) tiles.old tiles.new }
 {
     for band in bands.first..bands.end {
-        draw_band(item, images, paint, size, columns, band, tiles);
+        draw_band(paint, size, columns, band, tiles);
     }
 }
 
 /// Draws the tiles of a band, which is numbered from the bottom.
-fn draw_band(
-    item: &Item,
-    images: &Images<'_>,
-    paint: &Paint,
-    size: Size,
-    columns: Span,
-    band: u16,
-    tiles: &mut [Tile],
-)
+fn draw_band(paint: &Paint<'_>, size: Size, columns: Span, band: u16, tiles: &mut [Tile])
     requires sides { IsSize size }
-    requires drawable { IsDrawable (item_with item.now images.now) size }
-    requires paint { IsPaintOf paint.now (item_with item.now images.now) }
+    requires drawable { IsDrawable (item_of paint.now) size }
     requires count { length tiles.old ≡ tile_count size }
-    requires columns { HoldsColumns (box_of (item_with item.now images.now)) columns.first columns.end }
+    requires columns { HoldsColumns (box_of (item_of paint.now)) columns.first columns.end }
     requires across { columns.end ≤ tiles_along_of size.w }
     requires some_column { columns.first ≤ columns.end }
     requires band { band < tiles_along_of size.h }
-    ensures { AreDrawn (item_with item.now images.now) size (band * tiles_along_of size.w) ((band + 1) * tiles_along_of size.w) tiles.old tiles.new }
+    ensures { AreDrawn (item_of paint.now) size (band * tiles_along_of size.w) ((band + 1) * tiles_along_of size.w) tiles.old tiles.new }
 {
     for column in columns.first..columns.end {
-        draw_at(item, images, paint, size, column, band, tiles);
+        draw_at(paint, size, column, band, tiles);
     }
 }
 
-fn draw_at(
-    item: &Item,
-    images: &Images<'_>,
-    paint: &Paint,
-    size: Size,
-    column: u16,
-    band: u16,
-    tiles: &mut [Tile],
-)
+fn draw_at(paint: &Paint<'_>, size: Size, column: u16, band: u16, tiles: &mut [Tile])
     requires sides { IsSize size }
-    requires drawable { IsDrawable (item_with item.now images.now) size }
-    requires paint { IsPaintOf paint.now (item_with item.now images.now) }
     requires count { length tiles.old ≡ tile_count size }
     requires column { column < tiles_along_of size.w }
     requires band { band < tiles_along_of size.h }
-    ensures { AreDrawn (item_with item.now images.now) size (band * tiles_along_of size.w + column) (band * tiles_along_of size.w + (column + 1)) tiles.old tiles.new }
+    ensures { AreDrawn (item_of paint.now) size (band * tiles_along_of size.w + column) (band * tiles_along_of size.w + (column + 1)) tiles.old tiles.new }
 {
     let across = (usize::from(size.w) + 15) / 16;
     let number = usize::from(band) * across + usize::from(column);
@@ -143,25 +102,5 @@ fn draw_at(
         x0: 16 * column,
         y0: 16 * band,
     };
-    draw_tile(item, images, paint, size, rect, &mut tiles[number]);
-}
-
-fn draw_tile(
-    item: &Item,
-    images: &Images<'_>,
-    paint: &Paint,
-    _size: Size,
-    rect: TileRect,
-    tile: &mut Tile,
-)
-    requires drawable { IsDrawable (item_with item.now images.now) _size }
-    requires paint { IsPaintOf paint.now (item_with item.now images.now) }
-    requires column { rect.x0 ≤ GREATEST_SIDE }
-    requires band { rect.y0 ≤ GREATEST_SIDE }
-    ensures { IsSpan (tile_step (item_with item.now images.now) rect) 0 256 tile.old tile.new }
-{
-    match item {
-        Item::Draw(prim, state) => draw_on_tile(prim, state, images, paint, rect, tile),
-        Item::Clear(clear) => clear_on_tile(clear, &paint.wipe, rect, tile),
-    }
+    paint.draw_on(rect, &mut tiles[number]);
 }

@@ -12,14 +12,19 @@
 //! ```
 #![tactic(auto)]
 
+mod brush;
 mod clear;
-mod fragments;
+mod drawing;
 mod images;
 mod items;
+mod open;
+mod over;
 mod paint;
+mod painter;
 mod primitive;
 mod rows;
-mod shade;
+mod source;
+mod stages;
 mod surface;
 #[cfg(test)]
 mod tests;

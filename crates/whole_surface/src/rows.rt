@@ -1,5 +1,5 @@
 //! The pixels of a tile that a primitive shows, as rows of bits.
-ghost use Rattle.std.specs.Prelude.{◌≡◌, ◌≢◌, ℕ, ◌+◌, ◌<◌, ◌≤◌, Bool, slice_index, if◌then◌else◌};
+ghost use Rattle.std.specs.Prelude.{◌≡◌, ◌≢◌, ℕ, ◌+◌, ◌<◌, ◌≤◌, Bool, IsTrue, slice_index, if◌then◌else◌};
 ghost use Rattle.std.specs.Int.{bit_at};
 ghost use Rattle.gl_records.specs.PixelBox.{holds as box_holds};
 ghost use Rattle.gl_records.specs.Valid.{IsInRange};
@@ -76,6 +76,18 @@ fn with_bit(bits: u16, k: u16, set: bool) -> u16
     ensures others { (j : ℕ) → j ≢ k → bit_at result j ≡ bit_at bits j }
 {
     if set { bits | 1 << k } else { bits }
+}
+
+/// Whether no row has a bit.
+pub fn is_blank(rows: &[u16; 16]) -> bool
+    ensures { IsTrue result → (r : ℕ) → r < 16 → slice_index rows.now r ≡ 0 }
+{
+    for r in 0..16 {
+        if rows[r] != 0 {
+            return false;
+        }
+    }
+    true
 }
 
 /// Whether bit i is set.

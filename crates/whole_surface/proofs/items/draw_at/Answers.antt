@@ -4,7 +4,7 @@ use Rattle.std.proofs.lemmas.Option.{get_or_from_slice_get, slice_get-get_or}
 use Rattle.surface_tiles.specs.declared.tile.Tile.{Tile}
 use Rattle.surface_tiles.specs.Tiled.{opening_tile}
 use Rattle.gl_records.specs.Tiles.{tiles_along}
-use Rattle.whole_surface.specs.UnitImages.{item_with}
+use Rattle.whole_surface.specs.Items.{item_of}
 use Rattle.whole_surface.proofs.TileLemmas.{tile_drawn}
 use Rattle.whole_surface.proofs.items.draw_at.Goals as goal
 
@@ -21,5 +21,5 @@ returns c =
     let none : Tile = record { pixels = []; shaded = 0 } in
     let any : get_or tiles at none ≡ get_or tiles at opening_tile =
     get_or_from_slice_get tiles at (get_or tiles at opening_tile) none (slice_get-get_or tiles at opening_tile within) in
-    tile_drawn (item_with c.args.item.now c.args.images.now) size c.args.band c.args.column (record { x0 = 16 * c.args.column; y0 = 16 * c.args.band }) tiles _ c.draw_tile.new.tile refl refl c.requires.column within
-    (rw (number, any) at c.draw_tile.ensures) (ap (λ (n : ℕ). slice_set tiles n c.draw_tile.new.tile) number)
+    tile_drawn (item_of c.args.paint.now) size c.args.band c.args.column (record { x0 = 16 * c.args.column; y0 = 16 * c.args.band }) tiles _ c.draw_on.new.tile refl refl c.requires.column within
+    (rw (number, any) at c.draw_on.ensures) (ap (λ (n : ℕ). slice_set tiles n c.draw_on.new.tile) number)

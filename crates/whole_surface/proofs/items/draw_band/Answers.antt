@@ -1,6 +1,6 @@
 use Rattle.std.proofs.Common.{◌≡◌, ◌≤◌, ◌+◌, ◌*◌, inl, inr, arith}
 use Rattle.gl_records.specs.Tiles.{tiles_along}
-use Rattle.whole_surface.specs.UnitImages.{item_with}
+use Rattle.whole_surface.specs.Items.{item_of}
 use Rattle.whole_surface.proofs.TileLemmas.{columns_outside, tiles_join}
 use Rattle.whole_surface.proofs.items.draw_band.Goals as goal
 
@@ -11,7 +11,7 @@ loop-column-init c =
     let zero : base + 0 ≡ base = omega arith in
     let all : columns.first ≤ columns.first = omega arith in
     let within : columns.first ≤ tiles_along c.args.size.w = omega (arith, c.requires.across, c.requires.some_column) in
-    rw zero at (columns_outside (item_with c.args.item.now c.args.images.now) c.args.size c.args.band columns.first columns.end 0 columns.first c.args.tiles.now c.requires.drawable within c.requires.columns (inl all))
+    rw zero at (columns_outside (item_of c.args.paint.now) c.args.size c.args.band columns.first columns.end 0 columns.first c.args.tiles.now c.requires.drawable within c.requires.columns (inl all))
 
 pub returns : goal.returns
 returns c =
@@ -27,4 +27,4 @@ returns c =
     let low : base ≤ base + column = omega arith in
     let high : base + column ≤ base + across = omega arith in
     rw next at (tiles_join low high c.loop-column.invariant
-    (columns_outside (item_with c.args.item.now c.args.images.now) size c.args.band columns.first columns.end column across c.loop-column.tiles c.requires.drawable all c.requires.columns (inr last)))
+    (columns_outside (item_of c.args.paint.now) size c.args.band columns.first columns.end column across c.loop-column.tiles c.requires.drawable all c.requires.columns (inr last)))

@@ -1,6 +1,6 @@
 use Rattle.std.proofs.Common.{◌≡◌, ◌≤◌, ◌+◌, ◌*◌, inl, inr, arith}
 use Rattle.gl_records.specs.Tiles.{tile_count, tiles_along}
-use Rattle.whole_surface.specs.UnitImages.{item_with}
+use Rattle.whole_surface.specs.Items.{item_of}
 use Rattle.whole_surface.proofs.TileLemmas.{rows_outside, tiles_join}
 use Rattle.std.proofs.Math.Nat.{mul-le-mul_right}
 use Rattle.whole_surface.proofs.items.draw_bands.Goals as goal
@@ -10,7 +10,7 @@ loop-band-init c =
     let bands = c.args.bands in
     let zero : 0 * tiles_along c.args.size.w ≡ 0 = omega arith in
     let all : bands.first ≤ bands.first = omega arith in
-    rw zero at (rows_outside (item_with c.args.item.now c.args.images.now) c.args.size bands.first bands.end 0 bands.first c.args.tiles.now c.requires.drawable c.requires.bands (inl all))
+    rw zero at (rows_outside (item_of c.args.paint.now) c.args.size bands.first bands.end 0 bands.first c.args.tiles.now c.requires.drawable c.requires.bands (inl all))
 
 pub loop-band-preserved : goal.loop-band-preserved
 loop-band-preserved c =
@@ -32,4 +32,4 @@ returns c =
     let low : 0 ≤ band * across = omega arith in
     let high : band * across ≤ up * across = mul-le-mul_right across within in
     rw whole at (tiles_join low high c.loop-band.invariant
-    (rows_outside (item_with c.args.item.now c.args.images.now) size c.args.bands.first c.args.bands.end band up c.loop-band.tiles c.requires.drawable c.requires.bands (inr last)))
+    (rows_outside (item_of c.args.paint.now) size c.args.bands.first c.args.bands.end band up c.loop-band.tiles c.requires.drawable c.requires.bands (inr last)))

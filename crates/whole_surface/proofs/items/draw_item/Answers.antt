@@ -6,4 +6,5 @@ use Rattle.whole_surface.proofs.items.draw_item.Goals as goal
 pub returns-clause-drawn : goal.returns-clause-drawn
 returns-clause-drawn c =
     let images = c.args.images.now in
-    all_drawn (captured_by c.args.item.now images.first images.second) c.args.size _ _ (drawn_as (step-captured c.args.item.now images) c.draw_bands.ensures)
+    all_drawn (captured_by c.args.item.now images.first images.second) c.args.size _ _
+    (drawn_as (step-captured c.args.item.now images) (rw c.of-paint.ensures at c.draw_bands.ensures))

@@ -1,0 +1,144 @@
+//! Brushes for states without the alpha test and the stencil test.
+ghost use Rattle.std.specs.Prelude.{◌≡◌, if◌then◌else◌};
+ghost use Rattle.gl_records.specs.Comparison.{passes as passes_of};
+ghost use Rattle.whole_surface.specs.Stages.{AreTestsOf, IsFinishOf, nearer};
+ghost use Rattle.whole_surface.specs.declared.stages.Finish.TheVariants as finish;
+ghost use Rattle.whole_surface.specs.declared.stages.Tests.TheVariants as tests;
+
+use crate::brush::Brush;
+use crate::painter::Painter;
+use crate::source::Source;
+use gl_records::Pixel;
+use std::marker::Model;
+
+/// No test, and the pixel takes the colour as it is.
+#[derive(Drop)]
+pub struct Copying<'a, S: Source> {
+    painter: &'a Painter<'a, S>,
+}
+
+impl<'a, S: Source> Model for Copying<'a, S> {
+    ghost use Rattle.texture_env.specs.Shaders.{OnTile};
+
+    ghost Value = { OnTile };
+
+    ghost use Rattle.whole_surface.specs.Stages.{AreTestsOf, IsFinishOf};
+    ghost use Rattle.whole_surface.specs.declared.stages.Finish.TheVariants as finish;
+    ghost use Rattle.whole_surface.specs.declared.stages.Tests.TheVariants as tests;
+
+    ghost view = { λ c. c.painter.now };
+
+    ghost invariant = { λ c. AreTestsOf tests.None c.painter.now.subject.state × IsFinishOf finish.Copied c.painter.now.subject.state };
+}
+
+impl<'a, S: Source> Copying<'a, S> {
+    pub fn new(painter: &'a Painter<'a, S>) -> Copying<'a, S>
+        requires untested { AreTestsOf tests.None painter.now.subject.state }
+        requires copied { IsFinishOf finish.Copied painter.now.subject.state }
+        ensures { result ≡ painter.now }
+    {
+        Copying { painter }
+    }
+}
+
+impl<'a, S: Source> Brush for Copying<'a, S> {
+    ghost on = { λ c. c };
+
+    fn paint(&self, column: u16, row: u16, pixel: &mut Pixel) {
+        pixel.rgba = self.painter.color(column, row);
+    }
+}
+
+/// No test.
+#[derive(Drop)]
+pub struct Blending<'a, S: Source> {
+    painter: &'a Painter<'a, S>,
+}
+
+impl<'a, S: Source> Model for Blending<'a, S> {
+    ghost use Rattle.texture_env.specs.Shaders.{OnTile};
+
+    ghost Value = { OnTile };
+
+    ghost use Rattle.whole_surface.specs.Stages.{AreTestsOf};
+    ghost use Rattle.whole_surface.specs.declared.stages.Tests.TheVariants as tests;
+
+    ghost view = { λ b. b.painter.now };
+
+    ghost invariant = { λ b. AreTestsOf tests.None b.painter.now.subject.state };
+}
+
+impl<'a, S: Source> Blending<'a, S> {
+    pub fn new(painter: &'a Painter<'a, S>) -> Blending<'a, S>
+        requires { AreTestsOf tests.None painter.now.subject.state }
+        ensures { result ≡ painter.now }
+    {
+        Blending { painter }
+    }
+}
+
+impl<'a, S: Source> Brush for Blending<'a, S> {
+    ghost on = { λ b. b };
+
+    fn paint(&self, column: u16, row: u16, pixel: &mut Pixel) {
+        pixel.rgba = self.painter.finished(column, row, pixel.rgba);
+    }
+}
+
+/// The depth test alone, by less or by less or equal.
+#[derive(Drop)]
+pub struct Nearer<'a, S: Source> {
+    painter: &'a Painter<'a, S>,
+    equal: bool,
+    write: bool,
+}
+
+impl<'a, S: Source> Model for Nearer<'a, S> {
+    ghost use Rattle.texture_env.specs.Shaders.{OnTile};
+
+    ghost Value = { OnTile };
+
+    ghost use Rattle.whole_surface.specs.Stages.{AreTestsOf};
+    ghost use Rattle.whole_surface.specs.declared.stages.Tests.TheVariants as tests;
+
+    ghost view = { λ n. n.painter.now };
+
+    ghost invariant = { λ n. AreTestsOf (tests.Nearer n.equal n.write) n.painter.now.subject.state };
+}
+
+impl<'a, S: Source> Nearer<'a, S> {
+    pub fn new(painter: &'a Painter<'a, S>, equal: bool, write: bool) -> Nearer<'a, S>
+        requires { AreTestsOf (tests.Nearer equal write) painter.now.subject.state }
+        ensures { result ≡ painter.now }
+    {
+        Nearer {
+            painter,
+            equal,
+            write,
+        }
+    }
+}
+
+impl<'a, S: Source> Brush for Nearer<'a, S> {
+    ghost on = { λ n. n };
+
+    fn paint(&self, column: u16, row: u16, pixel: &mut Pixel) {
+        let z = self.painter.depth(column, row);
+        if is_nearer(self.equal, z, pixel.z) {
+            pixel.rgba = self.painter.finished(column, row, pixel.rgba);
+            pixel.z = written(self.write, z, pixel.z);
+        }
+    }
+}
+
+fn is_nearer(equal: bool, z: u32, stored: u32) -> bool
+    ensures { result ≡ passes_of (nearer equal) z stored }
+{
+    if equal { z <= stored } else { z < stored }
+}
+
+fn written(write: bool, z: u32, stored: u32) -> u32
+    ensures { result ≡ (if write then z else stored) }
+{
+    if write { z } else { stored }
+}
