@@ -3,7 +3,7 @@ use Rattle.std.specs.Prelude.{ℕ, ℤ, pos, ◌+◌, ◌^◌, ◌<◌, ◌≤�
 use Rattle.std.specs.Int.{bit_at}
 use Rattle.std.proofs.Common.{refl, ◌∙◌, ap, arith, FitsSigned, w64}
 use Rattle.std.proofs.lemmas.Int.{ints}
-use Rattle.std.proofs.lemmas.Nat.Bits.{bit_at_and}
+use Rattle.std.proofs.lemmas.Nat.Bits.{bit_at_and, bit_at-zero}
 use Rattle.coverage.specs.declared.triangle.EdgeSteps.{EdgeSteps}
 use Rattle.coverage.specs.Steps.{margin, row_bit}
 use Rattle.coverage.proofs.FillRuleLemmas.{covered_by}
@@ -26,6 +26,13 @@ start_fits value up r h p q =
 
 pub and_three : (u v w i : ℕ) → bit_at (bit_and (bit_and u v) w) i ≡ min (min (bit_at u i) (bit_at v i)) (bit_at w i)
 and_three u v w i = bit_at_and (bit_and u v) w i ∙ ap (λ (n : ℕ). min n (bit_at w i)) (bit_at_and u v i)
+
+-- a row whose first two edges show no bit in common
+pub none_of_two : (i u v w first second : ℕ) → bit_and first second ≡ 0 → bit_at first i ≡ u → bit_at second i ≡ v
+    → bit_at 0 i ≡ min (min u v) w
+none_of_two i u v w first second none is is_second =
+    let blank : 0 ≡ min 0 w = omega arith in
+    rw (← is, ← is_second, ← bit_at_and first second i, none, bit_at-zero i) blank
 
 bits_of_three : (a b c : Bool)
     → min (min (if a then 1 else 0) (if b then 1 else 0)) (if c then 1 else 0) ≡ (if a && b && c then 1 else 0)

@@ -22,7 +22,8 @@ mask_cases low high k false below p q = bit_at_mask_below low high k (leb-false 
 pub mask_bit : (low high k : ℕ) → bit_at (2 ^ high - 2 ^ low) k ≡ (if nat_le low k && nat_lt k high then 1 else 0)
 mask_bit low high k = mask_cases low high k (nat_le low k) (nat_lt k high) refl refl
 
-same_from : (place : ℤ) (count k : ℕ) (at : ℤ) → (k < count) ↔ (at <ℤ place) → nat_le count k ≡ int_le place at
+-- how many of the places lie below one, as a test of each
+pub same_from : (place : ℤ) (count k : ℕ) (at : ℤ) → (k < count) ↔ (at <ℤ place) → nat_le count k ≡ int_le place at
 same_from place count k at below =
     by_lt_z at place
     (λ less. let e : false ≡ int_le place at = omega (arith, ints, less) in lt-leb count k (below.1 less) ∙ e)
@@ -31,7 +32,7 @@ same_from place count k at below =
     let e : true ≡ int_le place at = omega (arith, ints, more) in
     le-leb count k (omega (arith, apart)) ∙ e)
 
-same_below : (place : ℤ) (count k : ℕ) (at : ℤ) → (k < count) ↔ (at <ℤ place) → nat_lt k count ≡ int_lt at place
+pub same_below : (place : ℤ) (count k : ℕ) (at : ℤ) → (k < count) ↔ (at <ℤ place) → nat_lt k count ≡ int_lt at place
 same_below place count k at below =
     by_lt_z at place
     (λ less. let e : true ≡ int_lt at place = omega (arith, ints, less) in lt-ltb k count (below.1 less) ∙ e)

@@ -1,5 +1,5 @@
 -- An edge function along a row of centres.
-use Rattle.std.specs.Prelude.{ℕ, suc, ℤ, pos, negsuc, ◌+◌, ◌*◌, ◌^◌, ◌%◌, ◌<◌, ◌≤◌, ◌+ℤ◌, ◌-ℤ◌, ◌*ℤ◌, ◌≤ℤ◌, ◌<ℤ◌, ◌≡◌, ◌≢◌, int_le, int_lt, Bool, true, false, ◌&&◌, ◌||◌, if◌then◌else◌, bit_or, unsigned_abs, IsTrue}
+use Rattle.std.specs.Prelude.{ℕ, suc, ℤ, pos, negsuc, ◌+◌, ◌*◌, ◌^◌, ◌%◌, ◌<◌, ◌≤◌, ◌+ℤ◌, ◌-ℤ◌, ◌*ℤ◌, ◌≤ℤ◌, ◌<ℤ◌, ◌≡◌, ◌≢◌, ◌↔◌, nat_le, nat_lt, int_le, int_lt, Bool, true, false, ◌&&◌, ◌||◌, if◌then◌else◌, bit_or, unsigned_abs, IsTrue}
 use Rattle.std.specs.Ordering.{int_eq}
 use Rattle.std.specs.Int.{bit_at}
 use Rattle.std.proofs.Common.{arith, FitsSigned, w64, below_more, sym, ◌∙◌}
@@ -8,6 +8,9 @@ use Rattle.std.proofs.Math.Nat.{mul-le-mul_right}
 use Rattle.std.proofs.lemmas.Nat.Bits.{bit_at_ones, bit_at-zero, bit_at_set_same, bit_at_set_other}
 use mir.Val.{bits as bits_of}
 use mir.Syntax.{w16}
+use Rattle.std.proofs.lemmas.Bool.{lt-ltb, le-leb}
+use Rattle.fx_arith.proofs.Products.{*ℤ--ℤ}
+use Rattle.coverage.proofs.RunLemmas.{same_from, same_below}
 use Rattle.coverage.proofs.Whole.{unsigned_abs-product}
 use Rattle.coverage.specs.Steps.{margin, row_bit}
 use Rattle.coverage.proofs.EdgeLemmas.{edge-step}
@@ -49,16 +52,61 @@ pub none_set : (value step : ℤ) → value <ℤ pos 0 → (value +ℤ (pos 15 *
 none_set value step p q k h =
     rw (row_bit-below value step k (below_between value step k h p q)) (bit_at-zero k)
 
--- one step more
-pub stepped : (value step at : ℤ) (k : ℕ) → at ≡ value +ℤ (pos k *ℤ step) → at +ℤ step ≡ value +ℤ (pos (k + 1) *ℤ step)
-stepped value step at k h = omega (arith, ints)
-
 -- how far k steps lead
-pub stepped_small : (value step : ℤ) (k : ℕ) → k ≤ 16 → unsigned_abs value ≤ 2 ^ 58 → unsigned_abs step ≤ 2 ^ 58
-    → FitsSigned w64 (value +ℤ (pos k *ℤ step))
-stepped_small value step k p q r =
+pub stepped_fits : (value step : ℤ) (k : ℕ) → k ≤ 16 → unsigned_abs value ≤ 2 ^ 59 → unsigned_abs step ≤ 2 ^ 58
+    → FitsSigned w64 (pos k *ℤ step) × FitsSigned w64 (value +ℤ (pos k *ℤ step))
+stepped_fits value step k p q r =
     let small = unsigned_abs-product (pos k) step 16 (2 ^ 58) p r in
+    (omega (arith, ints), omega (arith, ints))
+
+-- the value at the k-th centre is below 0 where that at a later one is
+below_before : (value : ℤ) (step k n : ℕ) → k ≤ n → (value +ℤ (pos n *ℤ pos step)) <ℤ pos 0 → (value +ℤ (pos k *ℤ pos step)) <ℤ pos 0
+below_before value step k n less below =
+    let most = mul-le-mul_right step less in
     omega (arith, ints)
+
+above_behind : (value : ℤ) (step k n : ℕ) → n ≤ k → pos 0 ≤ℤ (value +ℤ (pos n *ℤ pos step)) → pos 0 ≤ℤ (value +ℤ (pos k *ℤ pos step))
+above_behind value step k n less above =
+    let most = mul-le-mul_right step less in
+    omega (arith, ints)
+
+-- between two centres, the one below 0 and the next not, all change
+pub below_until : (value step : ℤ) (n : ℕ) → (value +ℤ (pos n *ℤ step)) <ℤ pos 0 → pos 0 ≤ℤ (value +ℤ (pos (n + 1) *ℤ step))
+    → (k : ℕ) → (k < n + 1) ↔ ((value +ℤ (pos k *ℤ step)) <ℤ pos 0)
+below_until value (pos s) n below above k = (
+  (λ less. let within : k ≤ n = omega arith in below_before value s k n within below),
+  (λ h.
+      let apart : ¬ (n + 1 ≤ k) = λ more. let not_below = above_behind value s k (n + 1) more above in absurd (omega (arith, ints, h)) in
+      omega (arith, apart)),
+)
+below_until value (negsuc s) n below above k = absurd (omega (arith, ints))
+
+and_true : (b : Bool) (bit : ℕ) → bit ≡ (if b && true then 1 else 0) → bit ≡ (if b then 1 else 0)
+and_true true bit is = is
+and_true false bit is = is
+
+-- a row's bits where its values rise
+pub rising_bit : (value step : ℤ) (count k bit : ℕ) → k < 16 → (k < count) ↔ ((value +ℤ (pos k *ℤ step)) <ℤ pos 0)
+    → bit ≡ (if nat_le count k && nat_lt k 16 then 1 else 0) → bit ≡ row_bit value step k
+rising_bit value step count k bit within below is =
+    and_true (int_le (pos 0) (value +ℤ (pos k *ℤ step))) bit
+    (rw (same_from (pos 0) count k (value +ℤ (pos k *ℤ step)) below, lt-ltb k 16 within) at is)
+
+below_turned : (a : ℤ) → int_lt (negsuc 0 -ℤ a) (pos 0) ≡ int_le (pos 0) a
+below_turned a = grind (arith, ints)
+
+turned_test : (value step : ℤ) (k : ℕ)
+    → int_lt ((negsuc 0 -ℤ value) +ℤ (pos k *ℤ (pos 0 -ℤ step))) (pos 0) ≡ int_le (pos 0) (value +ℤ (pos k *ℤ step))
+turned_test value step k =
+    let turned : (negsuc 0 -ℤ value) +ℤ (pos k *ℤ (pos 0 -ℤ step)) ≡ negsuc 0 -ℤ (value +ℤ (pos k *ℤ step)) =
+    omega (arith, ints, *ℤ--ℤ (pos k) (pos 0) step) in
+    rw turned (below_turned (value +ℤ (pos k *ℤ step)))
+
+-- and where they fall
+pub falling_bit : (value step : ℤ) (count k bit : ℕ) → (k < count) ↔ (((negsuc 0 -ℤ value) +ℤ (pos k *ℤ (pos 0 -ℤ step))) <ℤ pos 0)
+    → bit ≡ (if nat_le 0 k && nat_lt k count then 1 else 0) → bit ≡ row_bit value step k
+falling_bit value step count k bit below is =
+    rw (le-leb 0 k (omega arith), same_below (pos 0) count k ((negsuc 0 -ℤ value) +ℤ (pos k *ℤ (pos 0 -ℤ step))) below, turned_test value step k) at is
 
 -- what the bits before k + 1 are to be, where bit k is set
 pub set_done : (wanted : ℕ → ℕ) (k bits : ℕ) → k < 16 → wanted k ≡ 1 → ((j : ℕ) → j < k → bit_at bits j ≡ wanted j)

@@ -24,7 +24,7 @@ fn bits_below(place: i64, base: u16) -> u32
 }
 
 /// The bits from `low` on and below `high`.
-fn mask(low: u32, high: u32) -> u16
+pub(crate) fn mask(low: u32, high: u32) -> u16
     requires few { high ≤ 16 }
     ensures { (k : ℕ) → k < 16 → bit_at result k ≡ (if nat_le low k && nat_lt k high then 1 else 0) }
 {

@@ -1,11 +1,12 @@
 //! The rows of a tile that a triangle covers.
-ghost use Rattle.std.specs.Prelude.{◌≡◌, ℕ, ℤ, pos, ◌+ℤ◌, ◌-ℤ◌, ◌*ℤ◌, ◌<◌, ◌≤◌, ◌^◌, min, slice_index, unsigned_abs, IsTrue};
+ghost use Rattle.std.specs.Prelude.{◌≡◌, ℕ, ℤ, pos, ◌+◌, ◌+ℤ◌, ◌-ℤ◌, ◌*ℤ◌, ◌↔◌, ◌<◌, ◌≤◌, ◌<ℤ◌, ◌≤ℤ◌, ◌^◌, min, slice_index, unsigned_abs, IsTrue};
 ghost use Rattle.std.specs.Int.{bit_at};
 ghost use Rattle.coverage.specs.Steps.{margin as margin_of, row_bit};
 ghost use Rattle.gl_records.specs.Coverage.{owns as owns_centers};
 ghost use Rattle.gl_records.specs.Valid.{IsCornerInRange};
 
 use crate::edges::edge;
+use crate::run_bits::mask;
 use fx_arith::span;
 use gl_records::{TileRect, VertexOut};
 
@@ -108,9 +109,31 @@ fn stepped_rows(a: &EdgeSteps, b: &EdgeSteps, c: &EdgeSteps) -> [u16; 16]
 {
     let mut rows = [0; 16];
     for r in 0..16 {
-        rows[r] = row_at(a, r) & row_at(b, r) & row_at(c, r);
+        rows[r] = row_within(a, b, c, r);
     }
     rows
+}
+
+/// The bits of row `r` for all three edges. Where an edge shows none, the others are not asked.
+fn row_within(a: &EdgeSteps, b: &EdgeSteps, c: &EdgeSteps, r: usize) -> u16
+    requires { r < 16 }
+    ensures { (i : ℕ) → i < 16
+        → bit_at result i
+        ≡ min
+        (min
+        (row_bit (a.now.margin +ℤ (pos r *ℤ a.now.up)) a.now.right i)
+        (row_bit (b.now.margin +ℤ (pos r *ℤ b.now.up)) b.now.right i))
+        (row_bit (c.now.margin +ℤ (pos r *ℤ c.now.up)) c.now.right i) }
+{
+    let first = row_at(a, r);
+    if first == 0 {
+        return 0;
+    }
+    let both = first & row_at(b, r);
+    if both == 0 {
+        return 0;
+    }
+    both & row_at(c, r)
 }
 
 /// The bits of row `r` of the tile for one edge.
@@ -134,24 +157,45 @@ fn edge_row(value: i64, step: i64) -> u16
         u16::MAX
     } else if value < 0 && last < 0 {
         0
+    } else if value < 0 {
+        mask(below_zero(value, step), 16)
     } else {
-        stepped_row(value, step)
+        mask(0, below_zero(-1 - value, -step))
     }
 }
 
-/// The same bits, one centre after the other.
-fn stepped_row(value: i64, step: i64) -> u16
-    requires value_small { unsigned_abs value ≤ 2 ^ 58 }
+/// How many of the 16 centres of a row are below 0, where the first is and the last is not.
+fn below_zero(value: i64, step: i64) -> u32
+    requires value_small { unsigned_abs value ≤ 2 ^ 59 }
     requires step_small { unsigned_abs step ≤ 2 ^ 58 }
-    ensures { (k : ℕ) → k < 16 → bit_at result k ≡ row_bit value step k }
+    requires first { value <ℤ pos 0 }
+    requires last { pos 0 ≤ℤ (value +ℤ (pos 15 *ℤ step)) }
+    ensures exact { (k : ℕ) → k < 16 → (k < result) ↔ ((value +ℤ (pos k *ℤ step)) <ℤ pos 0) }
+    ensures few { result ≤ 16 }
 {
-    let mut bits = 0;
-    let mut at = value;
-    for k in 0..16u16 {
-        if at >= 0 {
-            bits |= 1 << k;
-        }
-        at += step;
+    let far = halved(value, step, 0, 8);
+    let far = halved(value, step, far, 4);
+    let far = halved(value, step, far, 2);
+    let far = halved(value, step, far, 1);
+    far + 1
+}
+
+/// The farther of two centres, one `half` behind the other, that is still below 0.
+fn halved(value: i64, step: i64, near: u32, half: u32) -> u32
+    requires value_small { unsigned_abs value ≤ 2 ^ 59 }
+    requires step_small { unsigned_abs step ≤ 2 ^ 58 }
+    requires places { near + half ≤ 16 }
+    requires near { (value +ℤ (pos near *ℤ step)) <ℤ pos 0 }
+    requires end { pos 0 ≤ℤ (value +ℤ (pos (near + (half + half)) *ℤ step)) }
+    ensures near { (value +ℤ (pos result *ℤ step)) <ℤ pos 0 }
+    ensures end { pos 0 ≤ℤ (value +ℤ (pos (result + half) *ℤ step)) }
+    ensures from { near ≤ result }
+    ensures to { result ≤ near + half }
+{
+    let farther = near + half;
+    if value + i64::from(farther) * step < 0 {
+        farther
+    } else {
+        near
     }
-    bits
 }

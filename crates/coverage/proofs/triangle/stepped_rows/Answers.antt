@@ -1,5 +1,4 @@
 use Rattle.std.proofs.Common.{arith, ◌<◌, ◌≢◌, length, below_more, get_or-set_same, get_or-set_other, length-set}
-use Rattle.coverage.proofs.RowLemmas.{and_three}
 use Rattle.coverage.proofs.triangle.stepped_rows.Goals as goal
 
 pub loop-r-preserved : goal.loop-r-preserved
@@ -11,8 +10,6 @@ loop-r-preserved c = record {
       rw get_or-set_other (c.loop-r.invariant.done r less i within))
       (λ i within.
       let inside : c.loop-r.r < length c.loop-r.rows = omega arith in
-      let first = c.row_at.ensures i within in
-      let second = c.row_at-in-loop-r.ensures i within in
-      let third = c.row_at-in-loop-r-2.ensures i within in
-      rw (get_or-set_same, and_three, first, second, third));
+      let row = c.row_within.ensures i within in
+      rw (get_or-set_same, row));
 }
