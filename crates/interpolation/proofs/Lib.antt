@@ -1,8 +1,10 @@
 pub mod Bounds
 pub mod Colors
+pub mod DepthSums
 pub mod Factors
 pub mod Fogs
 pub mod Frames
+pub mod Levels
 pub mod Neighbors
 pub mod Places
 pub mod Positive

@@ -18,6 +18,7 @@ use Rattle.gl_records.specs.Valid.{IsInRange}
 use Rattle.gl_records.specs.Weights.{AreWeights, weight, weighted_sum}
 use Rattle.interpolation.specs.Coordinates.{AreCoordinates}
 use Rattle.interpolation.specs.Factors.{common_q, factor, scaled_sum, scaled_total}
+use Rattle.interpolation.specs.TileValues.{IsSameOf}
 use Rattle.interpolation.proofs.Factors.{common_q-positive, floor_div-scaled, weighted_sum-scaled}
 use Rattle.interpolation.proofs.Fogs.{c8-nearest, quotient-positive}
 
@@ -98,23 +99,30 @@ unfolding fog_byte
 fog-scaled p x y quotient nearest range positive is nearest_is =
     rw (interpolated-scaled p (λ v. v.fog) x y range positive, ← is, nearest_is) (c8-nearest quotient)
 
-third_sum : (u v w f g h : ℤ) → (u *ℤ (f *ℤ pos 65536)) +ℤ (v *ℤ (g *ℤ pos 65536)) +ℤ (w *ℤ (h *ℤ pos 65536))
-    ≡ pos 65536 *ℤ ((u *ℤ (f *ℤ pos 1)) +ℤ (v *ℤ (g *ℤ pos 1)) +ℤ (w *ℤ (h *ℤ pos 1)))
-third_sum u v w f g h =
-    let a = var u in let b = var v in let c = var w in let i = var f in let j = var g in let k = var h in
+same_sum : (u v w f g h n : ℤ) → (u *ℤ (f *ℤ n)) +ℤ (v *ℤ (g *ℤ n)) +ℤ (w *ℤ (h *ℤ n))
+    ≡ n *ℤ ((u *ℤ (f *ℤ pos 1)) +ℤ (v *ℤ (g *ℤ pos 1)) +ℤ (w *ℤ (h *ℤ pos 1)))
+same_sum u v w f g h n =
+    let a = var u in let b = var v in let c = var w in let i = var f in let j = var g in let k = var h in let z = var n in
     same
-    (plus (plus (times a (times i (number 65536))) (times b (times j (number 65536)))) (times c (times k (number 65536))))
-    (times (number 65536) (plus (plus (times a (times i (number 1))) (times b (times j (number 1)))) (times c (times k (number 1)))))
+    (plus (plus (times a (times i z)) (times b (times j z))) (times c (times k z)))
+    (times z (plus (plus (times a (times i (number 1))) (times b (times j (number 1)))) (times c (times k (number 1)))))
     (omega arith)
 
--- what coordinates are divided by, where the third is 1 at each corner
-divisor-scaled : (p : Primitive) (unit : ℕ) (x y : ℤ)
-    → corner_coordinate unit 2 (corner p 0) ≡ pos 65536 → corner_coordinate unit 2 (corner p 1) ≡ pos 65536 → corner_coordinate unit 2 (corner p 2) ≡ pos 65536
-    → scaled_sum p (corner_coordinate unit 2) x y ≡ pos 65536 *ℤ scaled_total p x y
+-- the sum of a value that the corners all have
+sum-same : (p : Primitive) (value : VertexOut → ℤ) (n : ℤ) (x y : ℤ) → IsSameOf p value n → scaled_sum p value x y ≡ n *ℤ scaled_total p x y
 unfolding scaled_sum weighted_sum
-divisor-scaled p unit x y first second third =
-    rw (first, second, third)
-    (third_sum (weight p 0 x y) (weight p 1 x y) (weight p 2 x y) (pos (factor p (corner p 0))) (pos (factor p (corner p 1))) (pos (factor p (corner p 2))))
+sum-same p value n x y are =
+    rw (are.first, are.second, are.third)
+    (same_sum (weight p 0 x y) (weight p 1 x y) (weight p 2 x y) (pos (factor p (corner p 0))) (pos (factor p (corner p 1))) (pos (factor p (corner p 2))) n)
+
+over_itself : (d n : ℤ) → pos 0 <ℤ d → floor_div (n *ℤ d) (unsigned_abs d) ≡ n
+over_itself (pos m) n positive = floor_div-multiple n m (omega (arith, ints, positive))
+over_itself (negsuc m) n positive = absurd (omega (arith, ints))
+
+-- such a value is what each pixel has
+pub value-same : (p : Primitive) (value : VertexOut → ℤ) (n : ℤ) (x y : ℤ) → IsSameOf p value n → pos 0 <ℤ scaled_total p x y
+    → n ≡ floor_div (scaled_sum p value x y) (unsigned_abs (scaled_total p x y))
+value-same p value n x y are positive = sym (rw (sum-same p value n x y are) (over_itself (scaled_total p x y) n positive))
 
 sum-scaled : (p : Primitive) (unit k : ℕ) (x y : ℤ) → coordinate_sum p unit k x y ≡ pos (common_q p) *ℤ scaled_sum p (corner_coordinate unit k) x y
 unfolding coordinate_sum
@@ -146,7 +154,8 @@ unfolding coordinate
 coordinates-scaled p unit x y s t range positive first second third s_is t_is =
     let some = common_q-positive p range in
     let below : coordinate_sum p unit 2 x y ≡ pos (common_q p) *ℤ (pos 65536 *ℤ scaled_total p x y) =
-    sum-scaled p unit 2 x y ∙ ap (λ z. pos (common_q p) *ℤ z) (divisor-scaled p unit x y first second third) in
+    sum-scaled p unit 2 x y ∙ ap (λ z. pos (common_q p) *ℤ z)
+    (sum-same p (corner_coordinate unit 2) (pos 65536) x y (record { first = first; second = second; third = third })) in
     let there : true ≡ has_coordinates p unit x y = rw below (positive-scaled (common_q p) (scaled_total p x y) some positive) in
     record {
       s = rw (← there, sum-scaled p unit 0 x y, below) (s_is ∙ sym (ratio-scaled (common_q p) (scaled_sum p (corner_coordinate unit 0) x y) (scaled_total p x y) some positive));

@@ -1,4 +1,5 @@
 pub mod Coordinates
+pub mod Depths
 pub mod Factors
 pub mod Frames
 pub mod Mean

@@ -14,7 +14,7 @@ use Rattle.interpolation.specs.declared.channels.Color.{Color}
 use Rattle.interpolation.specs.declared.channels.Color.TheVariants.{One, Smooth, Plain}
 use Rattle.interpolation.specs.declared.channels.Channels.{Channels}
 use Rattle.interpolation.specs.declared.ratio.Ratio.{Ratio}
-use Rattle.interpolation.specs.declared.ratio.Ratio.TheVariants.{Fixed, Divided}
+use Rattle.interpolation.specs.declared.ratio.Ratio.TheVariants.{Flat, Fixed, Divided}
 use Rattle.interpolation.specs.declared.unit_ratios.UnitRatios.{UnitRatios}
 use Rattle.interpolation.specs.declared.divisor.Divisor.{Divisor}
 use Rattle.interpolation.specs.declared.spot.Spot.{Spot}
@@ -56,8 +56,15 @@ abbrev pub value_at : OnTile → (VertexOut → ℤ) → (i j : ℕ) → ℤ
 value_at on value i j =
     floor_div (scaled_sum on.prim value (x_of on i) (y_of on j)) (unsigned_abs (scaled_total on.prim (x_of on i) (y_of on j)))
 
+-- the corners all have this value
+pub record IsSameOf (p : Primitive) (value : VertexOut → ℤ) (n : ℤ) : Type 0 where
+  pub first : value (corner p 0) ≡ n
+  pub second : value (corner p 1) ≡ n
+  pub third : value (corner p 2) ≡ n
+
 -- what is known of a prepared value of the corners
 abbrev pub IsRatioOf : OnTile → (VertexOut → ℤ) → Ratio → Type 0
+IsRatioOf on value (Flat n) = IsSameOf on.prim value n
 IsRatioOf on value (Fixed fixed) = (i j : ℕ) → i ≤ 16 → j ≤ 16 → fixed_at fixed i j ≡ value_at on value i j
 IsRatioOf on value (Divided plane) = IsSumPlane on.prim on.rect value plane
 

@@ -78,6 +78,9 @@ impl<'a> Frame<'a> {
         ensures { (value : VertexOut → ℤ) → value (corner self.now.prim 0) ≡ a → value (corner self.now.prim 1) ≡ b → value (corner self.now.prim 2) ≡ c
             → IfSome result (IsRatioOf self.now value) }
     {
+        if are_same(a, b, c) {
+            return Some(Ratio::Flat(a));
+        }
         match self.plane(a, b, c) {
             Some(plane) => Some(self.ratio_of(divisor, plane)),
             None => None,
@@ -262,6 +265,12 @@ fn fixed_by(divisor: &Option<Divisor>, plane: &Plane) -> Option<FixedPlane>
         ) => fixed_quotient_by(plane, by),
         _ => None,
     }
+}
+
+fn are_same(a: i32, b: i32, c: i32) -> bool
+    ensures { IsTrue result → (a ≡ b) × (a ≡ c) }
+{
+    a == b && a == c
 }
 
 fn divisor_by(plane: Plane) -> Option<Divisor>

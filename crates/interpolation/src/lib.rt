@@ -13,7 +13,11 @@
 mod channels;
 mod color;
 mod coordinates;
+#[cfg(test)]
+mod depth_tests;
+mod depths;
 mod divisor;
+mod flat;
 mod fog;
 mod frame;
 mod ratio;
@@ -29,6 +33,8 @@ mod values;
 
 pub use color::interpolated_color;
 pub use coordinates::Coordinates;
+pub use depths::TileDepths;
+pub use flat::flat_color;
 pub use fog::fog_byte;
 pub use shares::Shares;
 pub use sharing::{beyond, shares_at, sum, total};

@@ -179,6 +179,7 @@ impl<'a> TileValues<'a> {
         ensures { (value : VertexOut → ℤ) → IsRatioOf self.now value ratio.now → result ≡ value_at self.now value spot.now.column spot.now.row }
     {
         match ratio {
+            Ratio::Flat(value) => i64::from(*value),
             Ratio::Fixed(fixed) => fixed.at(spot.column, spot.row),
             Ratio::Divided(plane) => by.floor_quotient(plane.at(spot.column, spot.row)),
         }
@@ -245,6 +246,7 @@ impl<'a> TileValues<'a> {
     }
 
     /// The texture coordinates of a unit (OpenGL ES 1.1.12, 3.7).
+    #[inline(always)]
     pub fn coordinates(&self, unit: usize, spot: &Spot) -> Coordinates
         requires unit { unit < 2 }
         requires spot { IsSpotOf self.now spot.now }

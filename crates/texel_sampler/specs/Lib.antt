@@ -1,2 +1,3 @@
 pub use Rattle.gl_records.specs.Sampling
 pub mod FourTexels
+pub mod SampledImage

@@ -10,6 +10,7 @@ use fx_arith::Fx;
 use gl_records::{ImageSet, Level, Sampler};
 
 /// The colour of level `k` at S and T, R G B A.
+#[inline(always)]
 pub fn level_color(
     set: &ImageSet,
     sampler: Sampler,

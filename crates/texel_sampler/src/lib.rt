@@ -1,7 +1,8 @@
 //! Texels of an image at texture coordinates: levels of detail, wrap modes and filters.
 //!
 //! The definitions stand in `gl_records`: `texel_of` for [`texel`], which is [`choose`] and then [`filter`], so that
-//! whoever samples many pixels of one primitive can choose once where [`asks_for_rho`] says so.
+//! whoever samples many pixels of one primitive can choose once where [`asks_for_rho`] says so, as an [`ImageSampler`]
+//! does.
 //!
 //! ```text
 //! let choice = choose(sampler, last_level(&set), rho); // one level or two, how much the second counts
@@ -12,6 +13,7 @@
 mod blending;
 mod choice;
 mod detail;
+mod image_sampler;
 mod lanes;
 mod level_texel;
 mod linear;
@@ -24,4 +26,5 @@ mod tests;
 mod wrapping;
 
 pub use choice::{asks_for_rho, choose};
+pub use image_sampler::ImageSampler;
 pub use sampling::{filter, texel};

@@ -1,3 +1,5 @@
 pub mod Combining
 pub mod Coordinates
 pub mod Shaders
+pub mod TextureUnits
+pub mod Spots

@@ -22,8 +22,9 @@ mod shader;
 mod shading;
 #[cfg(test)]
 mod shading_tests;
+mod spots;
 mod tile_unit;
 mod unit;
 
 pub use shader::{Shader, TileShader};
-pub use shading::shade;
+pub use shading::{shade, shade_plainly};

@@ -9,7 +9,8 @@ ghost use Rattle.interpolation.specs.TileValues.{IsSpotOf};
 ghost use Rattle.texture_env.specs.Shaders.{color_of};
 
 use crate::fog::fogged_by;
-use crate::tile_unit::textured_at;
+use crate::spots::spots_at;
+use crate::tile_unit::{TileUnit, asks_for_next, textured_at, tile_unit};
 use gl_records::{FragState, GREATEST_SIDE, ImageSet, Prim, TileRect};
 use interpolation::{Asked, PrimitiveValues, Spot, TileValues};
 use std::marker::Model;
@@ -60,10 +61,16 @@ impl<'a> Shader<'a> {
         requires band { rect.y0 ≤ GREATEST_SIDE }
         ensures { result ≡ record { subject = self.now; rect = rect } }
     {
+        let state = self.state;
+        let first_unit = tile_unit(&state.units[0], self.first);
+        let second_unit = tile_unit(&state.units[1], self.second);
         TileShader {
-            state: self.state,
+            state,
             first: self.first,
             second: self.second,
+            asks_for_next: asks_for_next(&first_unit) || asks_for_next(&second_unit),
+            first_unit,
+            second_unit,
             values: self.values.on_tile(rect),
         }
     }
@@ -84,12 +91,18 @@ pub struct TileShader<'a> {
     state: &'a FragState,
     first: Option<&'a ImageSet>,
     second: Option<&'a ImageSet>,
+    /// Whether a unit asks for the coordinates at the next pixels too.
+    asks_for_next: bool,
+    first_unit: Option<TileUnit<'a>>,
+    second_unit: Option<TileUnit<'a>>,
     values: TileValues<'a>,
 }
 
 impl<'a> Model for TileShader<'a> {
     ghost use Rattle.std.specs.Option.{option_copied};
+    ghost use Rattle.gl_records.specs.Shading.{unit_at};
     ghost use Rattle.texture_env.specs.Shaders.{IsSubject, OnTile, Subject};
+    ghost use Rattle.texture_env.specs.TextureUnits.{IsUnitOf};
 
     ghost Value = { OnTile };
 
@@ -98,7 +111,8 @@ impl<'a> Model for TileShader<'a> {
       rect = t.values.rect;
     } };
 
-    ghost invariant = { λ t. IsSubject (record { state = t.state.now; first = option_copied t.first; second = option_copied t.second; prim = t.values.prim }) };
+    ghost invariant = { λ t. IsSubject (record { state = t.state.now; first = option_copied t.first; second = option_copied t.second; prim = t.values.prim })
+        × IsUnitOf t.first_unit (unit_at t.state.now 0) (option_copied t.first) × IsUnitOf t.second_unit (unit_at t.state.now 1) (option_copied t.second) };
 }
 
 impl<'a> TileShader<'a> {
@@ -110,28 +124,11 @@ impl<'a> TileShader<'a> {
         requires covered { IsTrue (covers self.now.subject.prim (pos (self.now.rect.x0 + column)) (pos (self.now.rect.y0 + row))) }
         ensures { result ≡ color_of self.now.subject (self.now.rect.x0 + column) (self.now.rect.y0 + row) }
     {
-        let state = self.state;
-        let here = self.values.spot(column, row);
-        let primary = self.values.color(&here);
-        let below = textured_at(
-            &state.units[0],
-            self.first,
-            &self.values,
-            0,
-            &here,
-            primary,
-            primary,
-        );
-        let color = textured_at(
-            &state.units[1],
-            self.second,
-            &self.values,
-            1,
-            &here,
-            primary,
-            below,
-        );
-        self.fogged(&here, color)
+        let spots = spots_at(&self.values, column, row, self.asks_for_next);
+        let primary = self.values.color(&spots.here);
+        let below = textured_at(&self.first_unit, &self.values, 0, &spots, primary, primary);
+        let color = textured_at(&self.second_unit, &self.values, 1, &spots, primary, below);
+        self.fogged(&spots.here, color)
     }
 
     /// The colour in fog, where fog is on.

@@ -5,7 +5,7 @@ ghost use Rattle.gl_records.specs.Shading.{IsReadable};
 ghost use Rattle.gl_records.specs.Valid.{IsCornerInRange, IsInRange};
 
 use crate::environment_tests::{COLOR, CONSTANT, PREVIOUS, PRIMARY, TEXEL, UNIT, unit};
-use crate::{Shader, shade};
+use crate::{Shader, shade, shade_plainly};
 use coverage::rows;
 use gl_records::{
     Combine, Env, FragState, ImageSet, Level, PixelBox, Prim, PrimKind, Sampler, Texels, TileRect,
@@ -114,8 +114,10 @@ fn shaded(
     if row >> x & 1 == 1 {
         let shader = Shader::new(state, first, second, prim);
         let prepared = shader.on_tile(tile).color(u16::from(x), u16::from(y));
-        let plain = shade(state, first, second, prim, i32::from(x), i32::from(y));
+        let plain = shade_plainly(state, first, second, prim, i32::from(x), i32::from(y));
         assert_eq!(rt; prepared, plain);
+        let alone = shade(state, first, second, prim, i32::from(x), i32::from(y));
+        assert_eq!(rt; alone, plain);
         prepared
     } else {
         [0; 4]

@@ -1,118 +1,176 @@
 //! A texture unit at a pixel, by values that are prepared for a tile.
-ghost use Rattle.std.specs.Prelude.{◌≡◌, ℕ, ◌<◌, true};
+ghost use Rattle.std.specs.Prelude.{◌≡◌, ℕ, ◌<◌, true, Option};
 ghost use Rattle.std.specs.Option.{option_copied};
+ghost use Rattle.gl_records.specs.declared.level.ImageSet.{ImageSet as ImageSetOf};
+ghost use Rattle.gl_records.specs.declared.unit_state.UnitState.{UnitState as UnitStateOf};
 ghost use Rattle.gl_records.specs.Complete.{is_complete, last_level as last_of};
 ghost use Rattle.gl_records.specs.LevelChoice.{chosen};
 ghost use Rattle.gl_records.specs.LevelOfDetail.{rho as rho_of};
 ghost use Rattle.gl_records.specs.Shading.{IsReadable};
-ghost use Rattle.gl_records.specs.TextureEnvironment.{image_rho, textured as textured_color, unit_texel as texel_of_unit};
+ghost use Rattle.gl_records.specs.TextureEnvironment.{environment as environment_of, image_rho, textured as textured_color, unit_texel as texel_of_unit};
 ghost use Rattle.interpolation.specs.Coordinates.{AreCoordinates};
-ghost use Rattle.interpolation.specs.TileValues.{IsSpotOf, x_of, y_of};
+ghost use Rattle.interpolation.specs.TileValues.{x_of, y_of};
+ghost use Rattle.texture_env.specs.Spots.{AreSpots};
+ghost use Rattle.texture_env.specs.TextureUnits.{IsUnitOf};
 
 use crate::environment::environment;
 use crate::moves::greatest_move;
+use crate::spots::{Spots, next_spots};
 use crate::unit::{height, width};
-use gl_records::{ImageSet, PrimKind, Sampler, UnitState, last_level};
-use interpolation::{Coordinates, Spot, TileValues};
-use texel_sampler::{asks_for_rho, texel};
+use gl_records::{ImageSet, PrimKind, UnitState};
+use interpolation::{Coordinates, TileValues};
+use std::marker::Model;
+use texel_sampler::ImageSampler;
+
+/// A unit that is on, with its image.
+#[derive(Drop)]
+pub struct TileUnit<'a> {
+    unit: &'a UnitState,
+    image: ImageSampler<'a>,
+    /// The sides of level 0.
+    w: u16,
+    h: u16,
+}
+
+impl<'a> Model for TileUnit<'a> {
+    ghost use Rattle.std.specs.Prelude.{◌≡◌};
+    ghost use Rattle.gl_records.specs.Complete.{level_at};
+    ghost use Rattle.gl_records.specs.TextureEnvironment.{height_of, width_of};
+    ghost use Rattle.texture_env.specs.TextureUnits.{TextureUnit};
+
+    ghost Value = { TextureUnit };
+
+    ghost view = { λ u. record { unit = u.unit.now; set = u.image.set } };
+
+    ghost invariant = { λ u. (u.image.sampler ≡ u.unit.now.sampler) × (u.w ≡ width_of (level_at u.image.set 0)) × (u.h ≡ height_of (level_at u.image.set 0)) };
+}
+
+impl<'a> TileUnit<'a> {
+    fn new(unit: &'a UnitState, set: &'a ImageSet) -> TileUnit<'a>
+        requires { is_complete set.now unit.now.sampler ≡ true }
+        ensures { result ≡ record { unit = unit.now; set = set.now } }
+    {
+        TileUnit {
+            unit,
+            image: ImageSampler::new(set, unit.sampler),
+            w: width(&set.levels[0]),
+            h: height(&set.levels[0]),
+        }
+    }
+
+    /// The colour behind the unit at a pixel of the tile, where it is unit `k`.
+    fn color(
+        &self,
+        values: &TileValues<'_>,
+        k: usize,
+        spots: &Spots,
+        primary: [u8; 4],
+        previous: [u8; 4],
+    ) -> [u8; 4]
+        requires unit { k < 2 }
+        requires column { spots.now.here.column < 16 }
+        requires row { spots.now.here.row < 16 }
+        requires spots { AreSpots values.now spots.now }
+        ensures { result ≡ environment_of self.now.unit
+            (texel_of_unit self.now.unit self.now.set values.now.prim k (x_of values.now spots.now.here.column) (y_of values.now spots.now.here.row)) primary previous }
+    {
+        let texel = self.texel(values, k, spots);
+        environment(self.unit, texel, primary, previous)
+    }
+
+    fn texel(&self, values: &TileValues<'_>, k: usize, spots: &Spots) -> [u8; 4]
+        requires unit { k < 2 }
+        requires column { spots.now.here.column < 16 }
+        requires row { spots.now.here.row < 16 }
+        requires spots { AreSpots values.now spots.now }
+        ensures { result ≡ texel_of_unit self.now.unit self.now.set values.now.prim k (x_of values.now spots.now.here.column) (y_of values.now spots.now.here.row) }
+    {
+        let at = values.coordinates(k, &spots.here);
+        let rho = self.asked_rho(values, k, spots, at);
+        self.image.texel(at.s, at.t, rho)
+    }
+
+    /// Rho where the sampler's choice of levels goes by it, and 0 where it doesn't.
+    fn asked_rho(&self, values: &TileValues<'_>, k: usize, spots: &Spots, at: Coordinates) -> u64
+        requires unit { k < 2 }
+        requires column { spots.now.here.column < 16 }
+        requires row { spots.now.here.row < 16 }
+        requires spots { AreSpots values.now spots.now }
+        requires at { AreCoordinates at values.now.prim k (x_of values.now spots.now.here.column) (y_of values.now spots.now.here.row) }
+        ensures { chosen self.now.unit.sampler (last_of self.now.set) result
+            ≡ chosen self.now.unit.sampler (last_of self.now.set) (image_rho self.now.set values.now.prim k (x_of values.now spots.now.here.column) (y_of values.now spots.now.here.row)) }
+    {
+        if self.image.asks_for_rho() {
+            rho_at(self.w, self.h, values, k, spots, at)
+        } else {
+            0
+        }
+    }
+}
+
+/// A unit with its image, where it is on and has one.
+pub fn tile_unit<'a>(
+    unit: &'a Option<UnitState>,
+    image: Option<&'a ImageSet>,
+) -> Option<TileUnit<'a>>
+    requires { IsReadable unit.now (option_copied image) }
+    ensures { IsUnitOf result unit.now (option_copied image.entry) }
+{
+    match (unit, image) {
+        (Some(unit), Some(set)) => Some(TileUnit::new(unit, set)),
+        _ => None,
+    }
+}
 
 /// The colour behind unit `k` at a pixel of the tile. A unit that is off, or has no image, leaves the colour as it comes
 /// in.
 pub fn textured_at(
-    unit: &Option<UnitState>,
-    image: Option<&ImageSet>,
+    unit: &Option<TileUnit<'_>>,
     values: &TileValues<'_>,
     k: usize,
-    here: &Spot,
+    spots: &Spots,
     primary: [u8; 4],
     previous: [u8; 4],
 ) -> [u8; 4]
     requires unit { k < 2 }
-    requires column { here.now.column < 16 }
-    requires row { here.now.row < 16 }
-    requires spot { IsSpotOf values.now here.now }
-    requires readable { IsReadable unit.now (option_copied image) }
-    ensures { result ≡ textured_color unit.now (option_copied image.entry) values.now.prim k
-        (x_of values.now here.now.column) (y_of values.now here.now.row) primary previous }
+    requires column { spots.now.here.column < 16 }
+    requires row { spots.now.here.row < 16 }
+    requires spots { AreSpots values.now spots.now }
+    ensures { (asked : Option UnitStateOf) (image : Option ImageSetOf) → IsUnitOf unit.now asked image
+        → result ≡ textured_color asked image values.now.prim k (x_of values.now spots.now.here.column) (y_of values.now spots.now.here.row) primary previous }
 {
-    match (unit, image) {
-        (Some(unit), Some(set)) => {
-            let texel = unit_texel_at(unit, set, values, k, here);
-            environment(unit, texel, primary, previous)
-        }
-        _ => previous,
+    match unit {
+        Some(unit) => unit.color(values, k, spots, primary, previous),
+        None => previous,
     }
-}
-
-/// The unit's texel.
-fn unit_texel_at(
-    unit: &UnitState,
-    set: &ImageSet,
-    values: &TileValues<'_>,
-    k: usize,
-    here: &Spot,
-) -> [u8; 4]
-    requires unit { k < 2 }
-    requires column { here.now.column < 16 }
-    requires row { here.now.row < 16 }
-    requires spot { IsSpotOf values.now here.now }
-    requires complete { is_complete set.now unit.now.sampler ≡ true }
-    ensures { result ≡ texel_of_unit unit.now set.now values.now.prim k (x_of values.now here.now.column) (y_of values.now here.now.row) }
-{
-    let at = values.coordinates(k, here);
-    let rho = asked_rho_at(unit.sampler, set, values, k, here, at);
-    texel(set, unit.sampler, at.s, at.t, rho)
-}
-
-/// Rho where the sampler's choice of levels goes by it, and 0 where it doesn't.
-fn asked_rho_at(
-    sampler: Sampler,
-    set: &ImageSet,
-    values: &TileValues<'_>,
-    k: usize,
-    here: &Spot,
-    at: Coordinates,
-) -> u64
-    requires unit { k < 2 }
-    requires column { here.now.column < 16 }
-    requires row { here.now.row < 16 }
-    requires spot { IsSpotOf values.now here.now }
-    requires at { AreCoordinates at values.now.prim k (x_of values.now here.now.column) (y_of values.now here.now.row) }
-    ensures { chosen sampler (last_of set.now) result
-        ≡ chosen sampler (last_of set.now) (image_rho set.now values.now.prim k (x_of values.now here.now.column) (y_of values.now here.now.row)) }
-{
-    if !asks_for_rho(sampler, last_level(set)) {
-        return 0;
-    }
-    rho_at(
-        width(&set.levels[0]),
-        height(&set.levels[0]),
-        values,
-        k,
-        here,
-        at,
-    )
 }
 
 /// Rho, in 1/65536 texel of a level 0 of `w` by `h` texels, by the coordinates here and at the next pixels.
-fn rho_at(w: u16, h: u16, values: &TileValues<'_>, k: usize, here: &Spot, at: Coordinates) -> u64
+fn rho_at(w: u16, h: u16, values: &TileValues<'_>, k: usize, spots: &Spots, at: Coordinates) -> u64
     requires unit { k < 2 }
-    requires column { here.now.column < 16 }
-    requires row { here.now.row < 16 }
-    requires spot { IsSpotOf values.now here.now }
-    requires at { AreCoordinates at values.now.prim k (x_of values.now here.now.column) (y_of values.now here.now.row) }
-    ensures { result ≡ rho_of values.now.prim k w h (x_of values.now here.now.column) (y_of values.now here.now.row) }
+    requires column { spots.now.here.column < 16 }
+    requires row { spots.now.here.row < 16 }
+    requires spots { AreSpots values.now spots.now }
+    requires at { AreCoordinates at values.now.prim k (x_of values.now spots.now.here.column) (y_of values.now spots.now.here.row) }
+    ensures { result ≡ rho_of values.now.prim k w h (x_of values.now spots.now.here.column) (y_of values.now spots.now.here.row) }
 {
     if let PrimKind::Point = values.prim().kind {
         return 0;
     }
-    let right = values.spot(here.column + 1, here.row);
-    let above = values.spot(here.column, here.row + 1);
+    let next = next_spots(values, spots);
     greatest_move(
         w,
         h,
         at,
-        values.coordinates(k, &right),
-        values.coordinates(k, &above),
+        values.coordinates(k, &next.right),
+        values.coordinates(k, &next.above),
     )
+}
+
+/// Whether the unit asks for the coordinates at the next pixels too.
+pub fn asks_for_next(unit: &Option<TileUnit<'_>>) -> bool {
+    match unit {
+        Some(unit) => unit.image.asks_for_rho(),
+        None => false,
+    }
 }

@@ -13,19 +13,20 @@ next a b = omega (arith, ints)
 pub returns-in-Point : goal.returns-in-Point
 returns-in-Point c =
     let values = c.args.values.now in
-    rho-point values.prim c.args.k c.args.w c.args.h (x_of values c.args.here.now.column) (y_of values c.args.here.now.row)
+    rho-point values.prim c.args.k c.args.w c.args.h (x_of values c.args.spots.now.here.column) (y_of values c.args.spots.now.here.row)
     (rw c.prim.ensures at c.in-Point.is)
 
 pub returns : goal.returns
 returns c =
     let values = c.args.values.now in
-    let here = c.args.here.now in
+    let here = c.args.spots.now.here in
+    let near = c.next_spots-next.ensures in
     let x = x_of values here.column in
     let y = y_of values here.row in
     let right : AreCoordinates c.coordinates.result values.prim c.args.k (x +ℤ pos 1) y =
-    rw (c.spot-right.ensures.column, c.spot-right.ensures.row, next values.rect.x0 here.column) at c.coordinates.ensures in
+    rw (near.right_column, near.right_row, next values.rect.x0 here.column) at c.coordinates.ensures in
     let above : AreCoordinates c.coordinates-2.result values.prim c.args.k x (y +ℤ pos 1) =
-    rw (c.spot-above.ensures.column, c.spot-above.ensures.row, next values.rect.y0 here.row) at c.coordinates-2.ensures in
+    rw (near.above_column, near.above_row, next values.rect.y0 here.row) at c.coordinates-2.ensures in
     let other : values.prim.kind ≡ Point → ⊥ = λ e. c.in_default.not-Point (rw c.prim.ensures e) in
     c.greatest_move.ensures
     ∙ rho-moves values.prim c.args.k c.args.w c.args.h x y c.args.at c.coordinates.result c.coordinates-2.result other c.requires.at right above

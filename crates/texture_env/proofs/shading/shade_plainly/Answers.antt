@@ -5,7 +5,7 @@ use Rattle.interpolation.specs.Shares.{AreShares}
 use Rattle.interpolation.proofs.Bounds.{HasSmallWeights-covered}
 use Rattle.interpolation.proofs.Positive.{ArePositive-covered}
 use Rattle.texture_env.proofs.Shaded.{shaded-is}
-use Rattle.texture_env.proofs.shading.shade.Goals as goal
+use Rattle.texture_env.proofs.shading.shade_plainly.Goals as goal
 
 pub shares_at-shares-requires-clause-small : goal.shares_at-shares-requires-clause-small
 shares_at-shares-requires-clause-small c =
