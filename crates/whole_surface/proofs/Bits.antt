@@ -1,10 +1,10 @@
 -- Bits of rows under a box.
-use Rattle.std.proofs.Common.{◌≡◌, ◌<◌, ◌+◌, ◌-◌, ◌*◌, ◌/◌, ◌≤◌, ◌%◌, ℕ, Bool, true, false, ◌&&◌, refl, arith, min}
+use Rattle.std.proofs.Common.{◌≡◌, ◌<◌, ◌+◌, ◌-◌, ◌*◌, ◌/◌, ◌≤◌, ◌%◌, ◌^◌, ℕ, Bool, true, false, ◌&&◌, refl, arith, min}
 use Rattle.std.specs.Prelude.{List, slice_index, Option, if◌then◌else◌, bit_and, bit_or, bit_xor}
 use Rattle.std.specs.Int.Bits.{and_zero_r, or_zero_l}
 use Rattle.std.proofs.lemmas.Bool.{false≢true}
-use Rattle.std.proofs.lemmas.Nat.{and_mask}
-use Rattle.std.proofs.lemmas.Nat.Bits.{bit_at-zero}
+use Rattle.std.proofs.lemmas.Nat.{and_mask, pow-add}
+use Rattle.std.proofs.lemmas.Nat.Bits.{bit_at-zero, bit_at_above}
 use Rattle.std.specs.Int.{bit_at}
 use Rattle.gl_records.specs.declared.frag_state.FragState.{FragState}
 use Rattle.gl_records.specs.declared.level.ImageSet.{ImageSet}
@@ -38,6 +38,12 @@ whole_value value under small =
     let fits : value % 256 ≡ value = omega arith in
     rw (and_zero_r under, or_zero_l (bit_and value 255), kept, fits) refl
 
+-- no bit is set behind the highest
+pub none_behind : (n j i : ℕ) → n < 2 * 2 ^ j → j + 1 ≤ i → bit_at n i ≡ 0
+none_behind n j i less from =
+    let fits : n < 2 ^ (1 + j) = rw (pow-add 2 1 j) less in
+    bit_at_above n (1 + j) i fits (omega arith)
+
 -- ---- where no bit is set, no pixel is shown
 clear_bit : (b : Bool) (bit : ℕ) → bit ≡ (if b then 1 else 0) → bit ≡ 0 → b ≡ false
 clear_bit true bit e zero = absurd (omega arith)
@@ -47,20 +53,28 @@ step-unshown : (prim : Primitive) (state : FragState) (first second : Option Ima
     → step (Draw prim state first second) x y pixel ≡ pixel
 step-unshown prim state first second x y pixel h = rw h refl
 
-pub unshown : (on : OnTile) (r bits : ℕ) → bits ≡ 0
+pub unshown_run : (on : OnTile) (r bits from to : ℕ) → to ≤ 16 → ((i : ℕ) → from ≤ i → i < to → bit_at bits i ≡ 0)
     → ((i : ℕ) → i < 16 → bit_at bits i ≡ (if shown_on on i r then 1 else 0))
-    → (k : ℕ) (pixel : Pixel) → 16 * r ≤ k → k < 16 * r + 16 → step_on on k pixel ≡ pixel
-unshown on r bits none told k pixel low high =
+    → (k : ℕ) (pixel : Pixel) → 16 * r + from ≤ k → k < 16 * r + to → step_on on k pixel ≡ pixel
+unshown_run on r bits from to within none told k pixel low high =
     let s = on.subject in
     let i = k - 16 * r in
     let less : i < 16 = omega arith in
     let column : i ≡ k % 16 = omega arith in
     let row : r ≡ k / 16 = omega arith in
-    let zero : bit_at bits i ≡ 0 = rw none (bit_at-zero i) in
-    let off : shown s.prim s.state (on.rect.x0 + i) (on.rect.y0 + r) ≡ false = clear_bit _ (bit_at bits i) (told i less) zero in
+    let begun : from ≤ i = omega arith in
+    let not_ended : i < to = omega arith in
+    let off : shown s.prim s.state (on.rect.x0 + i) (on.rect.y0 + r) ≡ false = clear_bit _ (bit_at bits i) (told i less) (none i begun not_ended) in
     step-unshown s.prim s.state s.first s.second (on.rect.x0 + k % 16) (on.rect.y0 + k / 16) pixel (rw (column, row) at off)
 
--- the same of a whole tile
+-- the same of a whole row
+pub unshown : (on : OnTile) (r bits : ℕ) → bits ≡ 0
+    → ((i : ℕ) → i < 16 → bit_at bits i ≡ (if shown_on on i r then 1 else 0))
+    → (k : ℕ) (pixel : Pixel) → 16 * r ≤ k → k < 16 * r + 16 → step_on on k pixel ≡ pixel
+unshown on r bits none told k pixel low high =
+    unshown_run on r bits 0 16 (omega arith) (λ i from to. rw none (bit_at-zero i)) told k pixel (omega arith) high
+
+-- and of a whole tile
 pub all_unshown : (on : OnTile) (rows : List ℕ) → ((r : ℕ) → r < 16 → slice_index rows r ≡ 0)
     → ((r i : ℕ) → r < 16 → i < 16 → bit_at (slice_index rows r) i ≡ (if shown_on on i r then 1 else 0))
     → (k : ℕ) (pixel : Pixel) → k < 256 → step_on on k pixel ≡ pixel

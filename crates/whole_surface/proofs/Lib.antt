@@ -1,5 +1,4 @@
 pub mod Bits
-pub mod Means
 pub mod Spans
 pub mod Sums
 pub mod TileLemmas

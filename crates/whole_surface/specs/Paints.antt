@@ -3,18 +3,13 @@ use Rattle.std.specs.Prelude.{◌≡◌, ℕ, pos, Bool, ◌||◌, List, IsTrue,
 use Rattle.gl_records.specs.declared.clear.ClearItem.{ClearItem}
 use Rattle.gl_records.specs.declared.frag_state.FragState.{FragState}
 use Rattle.gl_records.specs.declared.pixel.Pixel.{Pixel}
-use Rattle.gl_records.specs.declared.prim.Primitive.{Primitive}
 use Rattle.gl_records.specs.Clear.{clear_step}
 use Rattle.gl_records.specs.Coverage.{covers}
-use Rattle.gl_records.specs.Depth.{depth}
-use Rattle.gl_records.specs.Interpolation.{interpolated_color}
 use Rattle.gl_records.specs.Shading.{unit_at}
 use Rattle.gl_records.specs.Valid.{IsInRange}
 use Rattle.texture_env.specs.Shaders.{Subject, color_of}
 use Rattle.whole_surface.specs.declared.drawing.Colors.{Colors}
 use Rattle.whole_surface.specs.declared.drawing.Colors.TheVariants as colors
-use Rattle.whole_surface.specs.declared.drawing.Depths.{Depths}
-use Rattle.whole_surface.specs.declared.drawing.Depths.TheVariants as depths
 use Rattle.whole_surface.specs.declared.stages.Finish.{Finish}
 use Rattle.whole_surface.specs.declared.stages.Tests.{Tests}
 use Rattle.whole_surface.specs.declared.wipe.Wipe.{Wipe}
@@ -31,10 +26,6 @@ IsWipeOf clear wipe = (pixel : Pixel) → wiped wipe pixel ≡ clear_step clear 
 abbrev pub is_shaded : FragState → Bool
 is_shaded state = is_some (unit_at state 0) || is_some (unit_at state 1) || is_some state.fog
 
--- each pixel that the primitive covers has this colour before texturing
-abbrev pub IsColorOf : Primitive → List ℕ → Type 0
-IsColorOf p color = (x y : ℕ) → IsTrue (covers p (pos x) (pos y)) → interpolated_color p (pos x) (pos y) ≡ color
-
 -- each pixel that the primitive covers has this colour, behind textures and fog
 abbrev pub IsShadedAs : Subject → List ℕ → Type 0
 IsShadedAs subject color = (x y : ℕ) → IsTrue (covers subject.prim (pos x) (pos y)) → color_of subject x y ≡ color
@@ -44,15 +35,9 @@ abbrev pub AreColorsOf : Colors → Subject → Type 0
 AreColorsOf (colors.One color) subject = IsShadedAs subject color
 AreColorsOf (colors.Shaded shader) subject = shader ≡ subject
 
--- what is known of its depths: they are one, or nothing
-abbrev pub AreDepthsOf : Depths → Primitive → Type 0
-AreDepthsOf (depths.One z) p = (x y : ℕ) → IsTrue (covers p (pos x) (pos y)) → depth p (pos x) (pos y) ≡ z
-AreDepthsOf depths.Sloped p = Unit {0}
-
 -- these fit a primitive with its state and images
-pub record IsDrawing (subject : Subject) (found : Colors) (deep : Depths) (asked : Tests) (made : Finish) : Type 0 where
+pub record IsDrawing (subject : Subject) (found : Colors) (asked : Tests) (made : Finish) : Type 0 where
   pub in_range : IsInRange subject.prim
   pub colors_fit : AreColorsOf found subject
-  pub depths_fit : AreDepthsOf deep subject.prim
   pub tests_fit : AreTestsOf asked subject.state
   pub finish_fits : IsFinishOf made subject.state

@@ -1,15 +1,18 @@
 -- What is known of a state of fragments once it was looked at.
-use Rattle.std.specs.Prelude.{◌≡◌, ℕ, Bool, false, ◌&&◌, List, length, Some, None, if◌then◌else◌, slice_index_or}
+use Rattle.std.specs.Prelude.{◌≡◌, ℕ, Bool, false, ◌&&◌, List, length, Option, Some, None, if◌then◌else◌, slice_index_or}
 use Rattle.gl_tokens.specs.declared.blend_factor.BlendFactor.TheVariants.{OneMinusSourceAlpha, SourceAlpha}
 use Rattle.gl_tokens.specs.declared.compare.Compare.{Compare}
 use Rattle.gl_tokens.specs.declared.compare.Compare.TheVariants.{Less, LessOrEqual}
 use Rattle.gl_records.specs.declared.frag_state.FragState.{FragState}
 use Rattle.gl_records.specs.Blending.{blended_color}
 use Rattle.gl_records.specs.Fragment.{blend}
+use Rattle.interpolation.specs.TileValues.{OnTile as PrimitiveOnTile}
+use Rattle.texture_env.specs.Shaders.{OnTile}
 use Rattle.whole_surface.specs.declared.stages.Finish.{Finish}
 use Rattle.whole_surface.specs.declared.stages.Finish.TheVariants as finish
 use Rattle.whole_surface.specs.declared.stages.Tests.{Tests}
 use Rattle.whole_surface.specs.declared.stages.Tests.TheVariants as tests
+use Rattle.whole_surface.specs.Subjects.{primitive_on}
 
 abbrev pub nearer : Bool → Compare
 nearer equal = if equal then LessOrEqual else Less
@@ -29,3 +32,8 @@ abbrev pub IsFinishOf : Finish → FragState → Type 0
 IsFinishOf finish.Copied state = (color under : List ℕ) → length color ≡ 4 → blend state color under ≡ color
 IsFinishOf finish.Over state = (color under : List ℕ) → blend state color under ≡ blended_color (SourceAlpha, OneMinusSourceAlpha) color under
 IsFinishOf finish.Any state = Unit {0}
+
+-- the primitive's depths on the tile, or the depth test is off
+abbrev pub AreAskedDepths : OnTile → Option PrimitiveOnTile → Type 0
+AreAskedDepths on (Some depths) = depths ≡ primitive_on on
+AreAskedDepths on None = on.subject.state.depth ≡ None

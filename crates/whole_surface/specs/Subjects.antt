@@ -4,6 +4,7 @@ use Rattle.gl_records.specs.declared.pixel.Pixel.{Pixel}
 use Rattle.gl_records.specs.Captured.{Captured, Draw}
 use Rattle.gl_records.specs.Coverage.{covers}
 use Rattle.gl_records.specs.Draw.{draw_step}
+use Rattle.interpolation.specs.TileValues.{OnTile as PrimitiveOnTile}
 use Rattle.texture_env.specs.Shaders.{OnTile, Subject}
 use Rattle.whole_surface.specs.Parts.{shown, tile_step}
 
@@ -26,3 +27,7 @@ covered_on on column row = covers on.subject.prim (pos (on.rect.x0 + column)) (p
 abbrev pub drawn_on : OnTile → (column row : ℕ) → Pixel → Pixel
 drawn_on on column row pixel =
     draw_step on.subject.prim on.subject.state on.subject.first on.subject.second (on.rect.x0 + column) (on.rect.y0 + row) pixel
+
+-- the primitive there
+abbrev pub primitive_on : OnTile → PrimitiveOnTile
+primitive_on on = record { prim = on.subject.prim; rect = on.rect }

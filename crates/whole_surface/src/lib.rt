@@ -12,8 +12,10 @@
 //! ```
 #![tactic(auto)]
 
+mod all_stages;
 mod brush;
 mod clear;
+mod depth_source;
 mod drawing;
 mod images;
 mod items;

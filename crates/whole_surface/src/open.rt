@@ -2,10 +2,12 @@
 ghost use Rattle.std.specs.Prelude.{◌≡◌, if◌then◌else◌};
 ghost use Rattle.gl_records.specs.Comparison.{passes as passes_of};
 ghost use Rattle.whole_surface.specs.Stages.{AreTestsOf, IsFinishOf, nearer};
+ghost use Rattle.whole_surface.specs.Subjects.{primitive_on};
 ghost use Rattle.whole_surface.specs.declared.stages.Finish.TheVariants as finish;
 ghost use Rattle.whole_surface.specs.declared.stages.Tests.TheVariants as tests;
 
 use crate::brush::Brush;
+use crate::depth_source::DepthSource;
 use crate::painter::Painter;
 use crate::source::Source;
 use gl_records::Pixel;
@@ -87,43 +89,49 @@ impl<'a, S: Source> Brush for Blending<'a, S> {
 
 /// The depth test alone, by less or by less or equal.
 #[derive(Drop)]
-pub struct Nearer<'a, S: Source> {
+pub struct Nearer<'a, S: Source, D: DepthSource> {
     painter: &'a Painter<'a, S>,
+    depths: D,
     equal: bool,
     write: bool,
 }
 
-impl<'a, S: Source> Model for Nearer<'a, S> {
+impl<'a, S: Source, D: DepthSource> Model for Nearer<'a, S, D> {
+    ghost use Rattle.std.specs.Prelude.{◌≡◌};
     ghost use Rattle.texture_env.specs.Shaders.{OnTile};
 
     ghost Value = { OnTile };
 
     ghost use Rattle.whole_surface.specs.Stages.{AreTestsOf};
+    ghost use Rattle.whole_surface.specs.Subjects.{primitive_on};
     ghost use Rattle.whole_surface.specs.declared.stages.Tests.TheVariants as tests;
 
     ghost view = { λ n. n.painter.now };
 
-    ghost invariant = { λ n. AreTestsOf (tests.Nearer n.equal n.write) n.painter.now.subject.state };
+    ghost invariant = { λ n. AreTestsOf (tests.Nearer n.equal n.write) n.painter.now.subject.state
+        × (D.deep n.depths ≡ primitive_on n.painter.now) };
 }
 
-impl<'a, S: Source> Nearer<'a, S> {
-    pub fn new(painter: &'a Painter<'a, S>, equal: bool, write: bool) -> Nearer<'a, S>
-        requires { AreTestsOf (tests.Nearer equal write) painter.now.subject.state }
+impl<'a, S: Source, D: DepthSource> Nearer<'a, S, D> {
+    pub fn new(painter: &'a Painter<'a, S>, depths: D, equal: bool, write: bool) -> Nearer<'a, S, D>
+        requires tests { AreTestsOf (tests.Nearer equal write) painter.now.subject.state }
+        requires depths { D.deep depths ≡ primitive_on painter.now }
         ensures { result ≡ painter.now }
     {
         Nearer {
             painter,
+            depths,
             equal,
             write,
         }
     }
 }
 
-impl<'a, S: Source> Brush for Nearer<'a, S> {
+impl<'a, S: Source, D: DepthSource> Brush for Nearer<'a, S, D> {
     ghost on = { λ n. n };
 
     fn paint(&self, column: u16, row: u16, pixel: &mut Pixel) {
-        let z = self.painter.depth(column, row);
+        let z = self.depths.depth_at(column, row);
         if is_nearer(self.equal, z, pixel.z) {
             pixel.rgba = self.painter.finished(column, row, pixel.rgba);
             pixel.z = written(self.write, z, pixel.z);

@@ -2,9 +2,13 @@
 ghost use Rattle.std.specs.Prelude.{◌≡◌, ℕ, ◌<◌, ◌≤◌, ◌+◌, slice_index, if◌then◌else◌};
 ghost use Rattle.std.specs.Int.{bit_at};
 ghost use Rattle.whole_surface.specs.Parts.{IsSpan};
+ghost use Rattle.whole_surface.specs.Stages.{AreTestsOf};
 ghost use Rattle.whole_surface.specs.Subjects.{shown_on, step_on};
+ghost use Rattle.whole_surface.specs.declared.stages.Tests.TheVariants as tests;
 
+use crate::all_stages::AllStages;
 use crate::brush::paint_rows;
+use crate::depth_source::OneDepth;
 use crate::drawing::{Colors, Drawing};
 use crate::open::{Blending, Copying, Nearer};
 use crate::painter::Painter;
@@ -46,9 +50,30 @@ fn paint_shown<S: Source>(painter: &Painter<'_, S>, rows: &[u16; 16], tile: &mut
     match (drawing.tests, drawing.finish) {
         (Tests::None, Finish::Copied) => paint_rows(&Copying::new(painter), rows, tile),
         (Tests::None, _) => paint_rows(&Blending::new(painter), rows, tile),
-        (Tests::Nearer { equal, write }, _) => {
-            paint_rows(&Nearer::new(painter, equal, write), rows, tile)
+        (Tests::Nearer { equal, write }, _) => paint_nearer(painter, equal, write, rows, tile),
+        (Tests::Any, _) => paint_rows(&AllStages::new(painter), rows, tile),
+    }
+}
+
+/// The same under the depth test alone, with one depth or with one for each pixel.
+fn paint_nearer<S: Source>(
+    painter: &Painter<'_, S>,
+    equal: bool,
+    write: bool,
+    rows: &[u16; 16],
+    tile: &mut Tile,
+)
+    requires tests { AreTestsOf (tests.Nearer equal write) painter.now.subject.state }
+    requires bits { (r i : ℕ) → r < 16 → i < 16
+        → bit_at (slice_index rows.now r) i ≡ (if shown_on painter.now i r then 1 else 0) }
+    ensures { IsSpan (step_on painter.now) 0 256 tile.old tile.new }
+{
+    let depths = painter.depths();
+    match depths.level() {
+        Some(z) => {
+            let one = OneDepth::new(&depths, z);
+            paint_rows(&Nearer::new(painter, one, equal, write), rows, tile)
         }
-        (Tests::Any, _) => paint_rows(painter, rows, tile),
+        None => paint_rows(&Nearer::new(painter, depths, equal, write), rows, tile),
     }
 }
