@@ -1,7 +1,5 @@
 -- What happens to the fragments of a draw, by the images that units are given.
-use Rattle.std.proofs.Common.{◌≡◌, ◌∙◌, ℕ, Bool, true, false, cond, List, [], ◌∷◌, Option, Some, None, IfSome, refl, sym, ap, subst}
-use Rattle.std.specs.Option.{option_map}
-use Rattle.std.proofs.lemmas.Bool.{false≢true}
+use Rattle.std.proofs.Common.{◌≡◌, ◌∙◌, ℕ, Bool, true, false, List, [], ◌∷◌, Option, Some, None, IfSome, refl}
 use Rattle.gl_records.specs.Captured.{captured_by, without_version, without_versions}
 use Rattle.gl_records.specs.declared.item.Item.{Item}
 use Rattle.gl_records.specs.declared.item.Item.TheVariants as item

@@ -15,10 +15,8 @@ use Rattle.texture_store.specs.Textures.{TextureObjects}
 use Rattle.draw_primitives.specs.Draw.{primitives_left}
 use Rattle.draw_front.specs.declared.pending.Pending.{Pending}
 use Rattle.gl_records.specs.Captured as captured
-use Rattle.gl_state.specs.declared.environments.Environment.{Environment}
-use Rattle.gl_state.specs.declared.state.State.{State}
 use Rattle.gl_state.specs.ClearItem.{clear_item}
-use Rattle.gl_state.specs.FragState.{frag_state, no_images, unit}
+use Rattle.gl_state.specs.FragState.{unit}
 use Rattle.gl_tokens.specs.Mode as mode_codes
 use Rattle.gl_tokens.specs.declared.array_kind.ArrayKind.TheVariants.{Vertex}
 use Rattle.gl_tokens.specs.declared.gl_error.GlError.{GlError}

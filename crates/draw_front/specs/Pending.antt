@@ -1,7 +1,9 @@
 -- The items of a record that are still to come, as the front keeps them.
 use Rattle.std.specs.Prelude.{ℕ, ℤ, List, [], ◌∷◌, map, Option, Some, None, if◌then◌else◌, unsigned_abs}
-use Rattle.draw_primitives.specs.Draw.{all_of, primitives_left}
+use Rattle.draw_primitives.specs.Draw.{Rest, all_of, primitives_left}
+use Rattle.draw_primitives.specs.Known.{AreKnown}
 use Rattle.gl_records.specs.declared.clear.ClearItem.{ClearItem}
+use Rattle.gl_records.specs.declared.frag_state.FragState.{FragState}
 use Rattle.gl_records.specs.declared.rec.Rec.{Rec}
 use Rattle.gl_records.specs.declared.rec.Rec.TheVariants as rec
 use Rattle.gl_records.specs.declared.size.Size.{Size}
@@ -27,12 +29,16 @@ items_left size context Nothing = []
 items_left size context (Clear clear) = captured.Clear clear ∷ []
 items_left size context (Draw fragments rest) = map (λ prim. captured_draw context.textures prim fragments) (primitives_left (memory_of context) size rest)
 
--- what holds of them: a Clear can be drawn, and of a draw the images that its units read
+-- what holds of a draw: the images that its units read are complete, and what is known of its vertices is so
+pub record IsPendingDraw (context : Context) (fragments : FragState) (rest : Rest) : Type 0 where
+  pub readable : AreReadable (without_versions fragments) (unit_content (unit_at fragments 0) context.textures 0) (unit_content (unit_at fragments 1) context.textures 1)
+  pub known : AreKnown (memory_of context) rest
+
+-- what holds of the items: a Clear can be drawn
 abbrev pub IsPending : Size → Context → Pending → Type 0
 IsPending size context Nothing = Unit {0}
 IsPending size context (Clear clear) = IsValidClear clear size
-IsPending size context (Draw fragments rest) =
-    AreReadable (without_versions fragments) (unit_content (unit_at fragments 0) context.textures 0) (unit_content (unit_at fragments 1) context.textures 1)
+IsPending size context (Draw fragments rest) = IsPendingDraw context fragments rest
 
 -- the same items, whatever versions their units name
 abbrev pub unversioned : Pending → Pending

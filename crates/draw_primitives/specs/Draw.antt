@@ -1,6 +1,6 @@
 -- The primitives of a draw, in their order: corners from the arrays, flat colours, clipping, set-up
 -- (OpenGL ES 1.1.12, 2.6 to 2.12).
-use Rattle.std.specs.Prelude.{ℕ, ◌<◌, ◌++◌, Bool, List, [], Option, map, is_some, if◌then◌else◌}
+use Rattle.std.specs.Prelude.{ℕ, ◌<◌, ◌++◌, Bool, List, [], Option, None, map, is_some, if◌then◌else◌}
 use Rattle.std.specs.List.{flat_map}
 use Rattle.gl_records.specs.declared.clip_vertex.ClipVertex.{ClipVertex}
 use Rattle.gl_records.specs.declared.prim.PrimKind.{PrimKind}
@@ -18,6 +18,7 @@ use Rattle.vertex_stage.specs.Vertex.{vertex_of}
 use Rattle.buffer_objects.specs.declared.buffer_key.BufferKey.{BufferKey}
 use Rattle.draw_primitives.specs.Memory.{Memory, Source}
 use Rattle.draw_primitives.specs.declared.draw_state.DrawState.{DrawState}
+use Rattle.draw_primitives.specs.declared.known.KnownVertices.{KnownVertices}
 use Rattle.draw_primitives.specs.Fan.{clipped, fan, set_up}
 
 -- what a mode's primitives span
@@ -30,11 +31,15 @@ kind_of mode.Triangles = Triangle
 kind_of mode.TriangleStrip = Triangle
 kind_of mode.TriangleFan = Triangle
 
--- vertex k of a draw, in clip coordinates
-unfoldable pub vertex_at : DrawState → Source → ℕ → ClipVertex
-vertex_at state source k =
+-- the vertex that an element of the arrays gives a draw, in clip coordinates
+unfoldable pub vertex_of_element : DrawState → Source → ℕ → ClipVertex
+vertex_of_element state source index =
     let memory = source.memory in
-    vertex_of state.vertex (fetch_of memory.arrays memory.buffers memory.regions state.current (index_of source.rec source.element memory.buffers memory.regions k))
+    vertex_of state.vertex (fetch_of memory.arrays memory.buffers memory.regions state.current index)
+
+-- vertex k of a draw
+abbrev pub vertex_at : DrawState → Source → ℕ → ClipVertex
+vertex_at state source k = vertex_of_element state source (index_of source.rec source.element source.memory.buffers source.memory.regions k)
 
 -- the vertex with the colours of another
 abbrev pub with_colors_of : ClipVertex → ClipVertex → ClipVertex
@@ -66,7 +71,7 @@ abbrev pub HasVertices : Option BufferKey → Rec → ℕ → Type 0
 HasVertices element rec n = (k : ℕ) → k < n → HasVertex element rec k
 
 -- what is still to come of a draw: the pieces of the primitive in hand, and the primitives behind it, by the numbers of their
--- vertices
+-- vertices; and the vertices of the primitive in hand
 pub record Rest : Type 0 where
   pub state : DrawState
   pub rec : Rec
@@ -74,11 +79,12 @@ pub record Rest : Type 0 where
   pub kind : PrimKind
   pub pieces : List (List ClipVertex)
   pub behind : List (List ℕ)
+  pub known : Option KnownVertices
 
 -- before the first primitive
 abbrev pub all_of : DrawState → Rec → Option BufferKey → Mode → ℕ → Rest
 all_of state rec element mode n =
-    record { state = state; rec = rec; element = element; kind = kind_of mode; pieces = []; behind = primitives mode n }
+    record { state = state; rec = rec; element = element; kind = kind_of mode; pieces = []; behind = primitives mode n; known = None }
 
 -- the primitives themselves, from this memory
 abbrev pub primitives_left : Memory → Size → Rest → List Primitive

@@ -1,3 +1,4 @@
 pub mod Draw
 pub mod Fan
+pub mod Known
 pub mod Memory

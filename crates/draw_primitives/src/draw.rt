@@ -6,10 +6,12 @@ ghost use Rattle.prim_assembly.specs.Primitives.{primitives};
 ghost use Rattle.vertex_fetch.specs.Draws.{draw_error, vertex_count};
 ghost use Rattle.draw_primitives.specs.Draw.{HasVertices, all_of, kind_of as kind_of_mode, primitives_left, set_up_all};
 ghost use Rattle.draw_primitives.specs.Fan.{set_up};
+ghost use Rattle.draw_primitives.specs.Known.{AreKnown, AreVertices};
 
-use crate::corners::corners;
+use crate::corners::{corners, vertices};
 use crate::draw_state::DrawState;
 use crate::fan::Fan;
+use crate::known::KnownVertices;
 use crate::memory::Memory;
 use buffer_objects::BufferKey;
 use gl_records::{Prim, PrimKind, Rec, Size};
@@ -29,6 +31,8 @@ pub struct Draw {
     next: u32,
     /// The pieces left of the one in hand.
     fan: Fan,
+    /// The vertices of the last one whose vertices were computed.
+    known: Option<KnownVertices>,
 }
 
 /// How many vertices are put together, and to what.
@@ -53,6 +57,7 @@ impl Model for Draw {
       kind = kind_of draw.assembly.mode;
       pieces = draw.fan;
       behind = drop draw.next (primitives draw.assembly.mode draw.assembly.amount);
+      known = draw.known;
     } };
 
     ghost invariant = { λ draw. AreRulesInRange draw.state.rules × HasVertices draw.element draw.rec draw.assembly.amount };
@@ -81,33 +86,48 @@ impl Draw {
             assembly: Assembly { mode, amount },
             next: 0,
             fan: Fan::empty(),
+            known: None,
         }
     }
 
-    /// Takes the next primitive, None exactly where none is left. It can be drawn on a surface of this size.
+    /// Takes the next primitive, None exactly where none is left. It can be drawn on a surface of this size. The memory is
+    /// what it was at the primitives before.
     pub fn next(&mut self, memory: &Memory<'_>, size: Size) -> Option<Prim>
+        requires known { AreKnown memory.now self.old }
         ensures prims { primitives_left memory.now size self.old
             ≡ option_to_list result ++ primitives_left memory.now size self.new }
         ensures none { IsNone result → primitives_left memory.now size self.new ≡ [] }
         ensures valid { IfSome result (λ prim. IsValid prim size) }
+        ensures known { AreKnown memory.now self.new }
     {
         let kind = kind_of(self.assembly.mode);
         if let Some(prim) = self.fan.next(&self.state.rules, kind, size) {
             return Some(prim);
         }
-        let (prim, fan, next) = next_prim(
+        let taken = next_prim(
             &self.state,
             &self.rec,
             self.element,
             self.assembly,
             self.next,
+            self.known,
             memory,
             size,
         );
-        self.fan = fan;
-        self.next = next;
-        prim
+        self.fan = taken.fan;
+        self.next = taken.next;
+        self.known = taken.known;
+        taken.prim
     }
+}
+
+/// A primitive that was taken, and what is left behind it.
+#[derive(Drop)]
+struct Taken {
+    prim: Option<Prim>,
+    fan: Fan,
+    next: u32,
+    known: Option<KnownVertices>,
 }
 
 /// The first primitive that set-up makes of the draw's from number `next` on, the pieces left of that one, and the number behind
@@ -118,31 +138,46 @@ fn next_prim(
     element: Option<BufferKey>,
     assembly: Assembly,
     next: u32,
+    known: Option<KnownVertices>,
     memory: &Memory<'_>,
     size: Size,
-) -> (Option<Prim>, Fan, u32)
+) -> Taken
     requires rules { AreRulesInRange state.now.rules }
     requires vertices { HasVertices element rec.now assembly.amount }
+    requires known { IfSome known (AreVertices state.now (record { rec = rec.now; element = element; memory = memory.now })) }
     ensures prims { set_up_all state.now (record { rec = rec.now; element = element; memory = memory.now }) size (kind_of_mode assembly.mode) (drop next (primitives assembly.mode assembly.amount))
-        ≡ option_to_list result.0
-        ++ set_up state.now.rules (kind_of_mode assembly.mode) size result.1
-        ++ set_up_all state.now (record { rec = rec.now; element = element; memory = memory.now }) size (kind_of_mode assembly.mode) (drop result.2 (primitives assembly.mode assembly.amount)) }
-    ensures none { IsNone result.0 → result.1 ≡ [] }
-    ensures end { IsNone result.0 → drop result.2 (primitives assembly.mode assembly.amount) ≡ [] }
-    ensures valid { IfSome result.0 (λ prim. IsValid prim size) }
+        ≡ option_to_list result.prim
+        ++ set_up state.now.rules (kind_of_mode assembly.mode) size result.fan
+        ++ set_up_all state.now (record { rec = rec.now; element = element; memory = memory.now }) size (kind_of_mode assembly.mode) (drop result.next (primitives assembly.mode assembly.amount)) }
+    ensures none { IsNone result.prim → result.fan ≡ [] }
+    ensures end { IsNone result.prim → drop result.next (primitives assembly.mode assembly.amount) ≡ [] }
+    ensures valid { IfSome result.prim (λ prim. IsValid prim size) }
+    ensures known { IfSome result.known (AreVertices state.now (record { rec = rec.now; element = element; memory = memory.now })) }
 {
     let kind = kind_of(assembly.mode);
     let user = has_plane(state);
     let end = count(assembly.mode, assembly.amount);
+    let mut known = known;
     for k in next..end {
         let numbers = numbers_of(assembly.mode, assembly.amount, k);
-        let corners = corners(state, rec, element, memory, numbers);
-        let mut fan = Fan::clipped(kind, user, &corners);
+        let vertices = vertices(state, rec, element, memory, numbers, &known);
+        known = Some(vertices);
+        let mut fan = Fan::clipped(kind, user, &corners(state.flat, &vertices));
         if let Some(prim) = fan.next(&state.rules, kind, size) {
-            return (Some(prim), fan, k + 1);
+            return Taken {
+                prim: Some(prim),
+                fan,
+                next: k + 1,
+                known,
+            };
         }
     }
-    (None, Fan::empty(), end)
+    Taken {
+        prim: None,
+        fan: Fan::empty(),
+        next: end,
+        known,
+    }
 }
 
 /// Whether the user's plane is on.

@@ -15,6 +15,7 @@ mod corners;
 mod draw;
 mod draw_state;
 mod fan;
+mod known;
 mod memory;
 
 pub use draw::Draw;

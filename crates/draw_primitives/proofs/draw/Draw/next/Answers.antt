@@ -15,3 +15,6 @@ returns-in-Some-clause-prims c =
     let made : set_up inside.state.rules kind c.args.size inside.fan ≡ c.in-Some.prim ∷ set_up inside.state.rules kind c.args.size c.next.new.self =
     rw (← c.kind_of-kind.ensures) c.in-Some.ensures.prims in
     sym (ap (primitives_left memory c.args.size) c.self.view_is) ∙ ap (λ (own : List Primitive). own ++ behind) made
+
+pub returns-in-Some-clause-known : goal.returns-in-Some-clause-known
+returns-in-Some-clause-known c = rw (← c.self.view_is) at c.requires.known
