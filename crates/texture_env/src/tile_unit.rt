@@ -124,6 +124,7 @@ pub fn tile_unit<'a>(
 
 /// The colour behind unit `k` at a pixel of the tile. A unit that is off, or has no image, leaves the colour as it comes
 /// in.
+#[inline(always)]
 pub fn textured_at(
     unit: &Option<TileUnit<'_>>,
     values: &TileValues<'_>,
