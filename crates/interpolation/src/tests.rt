@@ -59,26 +59,41 @@ fn triangle(a: VertexOut, b: VertexOut, c: VertexOut) -> Prim
     }
 }
 
-/// Two primitives of a number: with the same q at all corners, and with q of up to so many bits; their third coordinates
-/// are 1, or not at one corner.
+/// Three primitives of a number: with q of up to so many bits, with the same q at all corners, and with values that all
+/// corners have. Their third coordinates are 1, or not at one corner.
 fn compare_number(rt: &impl Abort, number: u64, bits: u32) {
     let a = corner(number, bits, 65536);
     let b = corner(behind(number), bits, 65536);
     let c = corner(behind(behind(number)), bits, 131072);
     compare(rt, &triangle(a, b, c));
-    let (q, color) = (a.q, a.rgba);
-    compare(
-        rt,
-        &triangle(
-            a,
-            VertexOut { q, ..b },
-            VertexOut {
-                q,
-                rgba: color,
-                ..c
-            },
-        ),
-    );
+    compare(rt, &triangle(a, with_q(a.q, b), with_q(a.q, c)));
+    compare(rt, &triangle(a, with_values(&a, b), with_values(&a, c)));
+}
+
+fn with_q(q: u32, v: VertexOut) -> VertexOut
+    requires corner { IsCornerInRange v }
+    requires from { 1 ≤ q }
+    requires to { q ≤ 2147483648 }
+    ensures { IsCornerInRange result }
+{
+    VertexOut { q, ..v }
+}
+
+/// The corner with another's blue, alpha, fog and s of the first unit.
+fn with_values(of: &VertexOut, v: VertexOut) -> VertexOut
+    requires { IsCornerInRange v }
+    ensures { IsCornerInRange result }
+{
+    let [_, _, blue, alpha] = of.rgba;
+    let [red, green, _, _] = v.rgba;
+    let [[s, _, _], _] = of.tex;
+    let [[_, t, third], second] = v.tex;
+    VertexOut {
+        rgba: [red, green, blue, alpha],
+        fog: of.fog,
+        tex: [[s, t, third], second],
+        ..v
+    }
 }
 
 fn compare(rt: &impl Abort, prim: &Prim)

@@ -115,8 +115,8 @@ fn shaded(
         let shader = Shader::new(state, first, second, prim);
         let prepared = shader.on_tile(tile).color(u16::from(x), u16::from(y));
         let plain = shade_plainly(state, first, second, prim, i32::from(x), i32::from(y));
-        assert_eq!(rt; prepared, plain);
         let alone = shade(state, first, second, prim, i32::from(x), i32::from(y));
+        assert_eq!(rt; prepared, plain);
         assert_eq!(rt; alone, plain);
         prepared
     } else {
