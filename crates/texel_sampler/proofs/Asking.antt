@@ -73,7 +73,7 @@ minified-great : (sharper : Bool) (one other : LevelChoice) → (if int_le (pos 
 minified-great true one other = refl
 minified-great false one other = refl
 
-chosen-zero : (sampler : Sampler) (last : ℕ) → chosen sampler last 0 ≡ single (is_linear sampler.mag) 0
+pub chosen-zero : (sampler : Sampler) (last : ℕ) → chosen sampler last 0 ≡ single (is_linear sampler.mag) 0
 unfolding chosen
 chosen-zero sampler last =
     ap (λ detail. chosen_at sampler last detail) lambda-zero
@@ -90,7 +90,7 @@ two_levels-linear : (linear below : Bool) (last detail : ℕ) → (if below then
 two_levels-linear linear true last detail = refl
 two_levels-linear linear false last detail = refl
 
-minified-linear : (filter : Filter) (last detail : ℕ) → (minified filter last detail).linear ≡ is_linear filter
+pub minified-linear : (filter : Filter) (last detail : ℕ) → (minified filter last detail).linear ≡ is_linear filter
 minified-linear Nearest last detail = refl
 minified-linear Linear last detail = refl
 minified-linear NearestMipmapNearest last detail = refl

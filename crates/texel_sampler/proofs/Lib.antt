@@ -1,8 +1,11 @@
 pub mod About
 pub mod Asking
 pub mod Blends
+pub mod ByWraps
 pub mod Choices
 pub mod Examples
 pub mod Leading
 pub mod Masks
+pub mod Rows
+pub mod Runs
 pub mod Weighted

@@ -1,36 +1,34 @@
 -- Four numbers with their weights.
-use Rattle.std.proofs.Common.{◌≡◌, ℕ, ◌<◌, ◌≤◌, ◌+◌, ◌*◌, ap, arith}
+use Rattle.std.proofs.Common.{◌≡◌, ℕ, ◌<◌, ◌≤◌, ◌+◌, ◌-◌, ◌*◌, ◌/◌, ap, arith, sym}
 use Rattle.std.proofs.lemmas.Nat.{mul-le}
-use Rattle.std.proofs.Math.Nat.{add-mul}
-use Rattle.texel_sampler.specs.FourTexels.{byte_of, sum_of_four}
+use Rattle.std.proofs.Math.Nat.{add-mul, mul-add, mul_assoc, mul_comm}
 
--- the weights of two fractions are 65536 in all
-pub weights : (a b c d : ℕ) → a + c ≡ 256 → b + d ≡ 256 → c * d + a * d + c * b + a * b ≡ 65536
-weights a b c d across along =
-    let low = add-mul a c d in
-    let high = add-mul a c b in
-    let low_is : (a + c) * d ≡ 256 * d = ap (λ n. n * d) across in
-    let high_is : (a + c) * b ≡ 256 * b = ap (λ n. n * b) across in
-    omega (arith, low, high, low_is, high_is)
+-- two numbers that count 256 together make at most 256 times the greater
+pub two-bound : (a x y most : ℕ) → a < 256 → x ≤ most → y ≤ most → (256 - a) * x + a * y ≤ 256 * most
+two-bound a x y most less px py =
+    let c = 256 - a in
+    let first = mul-le c x c most (omega arith) px in
+    let second = mul-le a y a most (omega arith) py in
+    let whole = add-mul a c most in
+    let all : a + c ≡ 256 = omega arith in
+    let is : (a + c) * most ≡ 256 * most = ap (λ n. n * most) all in
+    omega (arith, first, second, whole, is)
 
--- so the sum of bytes is at most that of bytes of 255
-sum-bound : (p q r s x y z v : ℕ) → p + q + r + s ≡ 65536 → x < 256 → y < 256 → z < 256 → v < 256 → p * x + q * y + r * z + s * v ≤ 16711680
-sum-bound p q r s x y z v whole px py pz pv =
-    let most_x = mul-le p x p 255 (omega arith) (omega arith) in
-    let most_y = mul-le q y q 255 (omega arith) (omega arith) in
-    let most_z = mul-le r z r 255 (omega arith) (omega arith) in
-    let most_v = mul-le s v s 255 (omega arith) (omega arith) in
-    omega (arith, most_x, most_y, most_z, most_v, whole)
+-- a product of a weight and a sum by weights
+by_parts : (d c a x y : ℕ) → d * (c * x + a * y) ≡ c * d * x + a * d * y
+by_parts d c a x y =
+    let first : d * (c * x) ≡ c * d * x = rw (mul_comm c d) (sym (mul_assoc d c x)) in
+    let second : d * (a * y) ≡ a * d * y = rw (mul_comm a d) (sym (mul_assoc d a y)) in
+    let whole = mul-add d (c * x) (a * y) in
+    omega (arith, first, second, whole)
 
--- of each byte of four texels
-pub red-bound : (p q r s low_low high_low low_high high_high : ℕ) → p + q + r + s ≡ 65536 → sum_of_four p q r s low_low high_low low_high high_high 0 ≤ 16711680
-red-bound p q r s x y z v whole = sum-bound p q r s (byte_of x 0) (byte_of y 0) (byte_of z 0) (byte_of v 0) whole (omega arith) (omega arith) (omega arith) (omega arith)
-
-pub green-bound : (p q r s low_low high_low low_high high_high : ℕ) → p + q + r + s ≡ 65536 → sum_of_four p q r s low_low high_low low_high high_high 1 ≤ 16711680
-green-bound p q r s x y z v whole = sum-bound p q r s (byte_of x 1) (byte_of y 1) (byte_of z 1) (byte_of v 1) whole (omega arith) (omega arith) (omega arith) (omega arith)
-
-pub blue-bound : (p q r s low_low high_low low_high high_high : ℕ) → p + q + r + s ≡ 65536 → sum_of_four p q r s low_low high_low low_high high_high 2 ≤ 16711680
-blue-bound p q r s x y z v whole = sum-bound p q r s (byte_of x 2) (byte_of y 2) (byte_of z 2) (byte_of v 2) whole (omega arith) (omega arith) (omega arith) (omega arith)
-
-pub alpha-bound : (p q r s low_low high_low low_high high_high : ℕ) → p + q + r + s ≡ 65536 → sum_of_four p q r s low_low high_low low_high high_high 3 ≤ 16711680
-alpha-bound p q r s x y z v whole = sum-bound p q r s (byte_of x 3) (byte_of y 3) (byte_of z 3) (byte_of v 3) whole (omega arith) (omega arith) (omega arith) (omega arith)
+-- first along the rows and then across them, or all at once
+pub at-once : (a b x y z v : ℕ)
+    → ((256 - b) * ((256 - a) * x + a * y) + b * ((256 - a) * z + a * v) + 32768) / 65536
+    ≡ ((256 - a) * (256 - b) * x + a * (256 - b) * y + (256 - a) * b * z + a * b * v + 32768) / 65536
+at-once a b x y z v =
+    let lower = by_parts (256 - b) (256 - a) a x y in
+    let upper = by_parts b (256 - a) a z v in
+    let sums : (256 - b) * ((256 - a) * x + a * y) + b * ((256 - a) * z + a * v) + 32768
+    ≡ (256 - a) * (256 - b) * x + a * (256 - b) * y + (256 - a) * b * z + a * b * v + 32768 = omega (arith, lower, upper) in
+    ap (λ n. n / 65536) sums

@@ -1,9 +1,12 @@
 //! Which levels of an image are read (OpenGL ES 1.1.12, 3.7, "Texture Minification" and "Texture Magnification").
-ghost use Rattle.std.specs.Prelude.{◌≡◌, ℕ, pos, negsuc, ◌^◌, ◌≤◌, ◌≤ℤ◌, false, IsTrue};
+ghost use Rattle.std.specs.Prelude.{◌≡◌, ℕ, pos, ◌^◌, ◌≤ℤ◌, false, IsTrue};
 ghost use Rattle.gl_records.specs.Complete.{is_mipmap as reads_levels};
-ghost use Rattle.gl_records.specs.LevelChoice.{chosen, chosen_at as chosen_by_lambda, is_linear as weights_texels, is_sharper_minified as is_sharper, minified as minified_choice, nearest_level as nearest_of, single as single_level, threshold as threshold_of, two_levels as two_of};
+ghost use Rattle.gl_records.specs.LevelChoice.{chosen, is_linear as weights_texels, is_sharper_minified as is_sharper, threshold as threshold_of};
+ghost use Rattle.gl_records.specs.LevelOfDetail.{lambda as lambda_of};
+ghost use Rattle.texel_sampler.specs.Choosings.{chosen_from, fixed_by};
 
 use crate::detail::lambda;
+use crate::minifying::{FirstLevel, Minifying, NearestLevel, TwoLevels, single};
 use gl_records::{LevelChoice, Sampler};
 use gl_tokens::Filter;
 
@@ -13,17 +16,54 @@ use gl_tokens::Filter;
 pub fn choose(sampler: Sampler, last: u8, rho: u64) -> LevelChoice
     ensures { result ≡ chosen sampler last rho }
 {
-    chosen_at(sampler, last, lambda(rho))
+    let choosing = Choosing::new(sampler, last);
+    match sampler.min {
+        Filter::Nearest | Filter::Linear => chosen_at::<FirstLevel>(choosing, rho),
+        Filter::NearestMipmapNearest | Filter::LinearMipmapNearest => {
+            chosen_at::<NearestLevel>(choosing, rho)
+        }
+        Filter::NearestMipmapLinear | Filter::LinearMipmapLinear => {
+            chosen_at::<TwoLevels>(choosing, rho)
+        }
+    }
 }
 
-fn chosen_at(sampler: Sampler, last: u8, detail: i32) -> LevelChoice
-    requires to { detail ≤ℤ pos 12287 }
-    ensures { result ≡ chosen_by_lambda sampler last detail }
+/// What a sampler and the last level of its image fix for the choices at all pixels.
+#[derive(Clone, Copy)]
+pub struct Choosing {
+    last: u8,
+    /// The greatest lambda, in 1/256, at which the texture is magnified.
+    threshold: i32,
+    /// Whether MAG weights texels, and whether MIN does.
+    mag: bool,
+    min: bool,
+}
+
+impl Choosing {
+    pub fn new(sampler: Sampler, last: u8) -> Choosing
+        ensures value { result ≡ fixed_by sampler last }
+        ensures from { pos 0 ≤ℤ result.threshold }
+    {
+        Choosing {
+            last,
+            threshold: threshold(sampler),
+            mag: is_linear(sampler.mag),
+            min: is_linear(sampler.min),
+        }
+    }
+}
+
+/// The choice for a rho in 1/65536 texel of level 0.
+#[inline(always)]
+pub fn chosen_at<M: Minifying>(choosing: Choosing, rho: u64) -> LevelChoice
+    requires { pos 0 ≤ℤ choosing.threshold }
+    ensures { result ≡ chosen_from M.levels choosing (lambda_of rho) }
 {
-    if detail <= threshold(sampler) {
-        single(is_linear(sampler.mag), 0)
+    let detail = lambda(rho);
+    if detail <= choosing.threshold {
+        single(choosing.mag, 0)
     } else {
-        minified(sampler.min, last, detail.unsigned_abs())
+        M::choice(choosing.min, choosing.last, detail.unsigned_abs())
     }
 }
 
@@ -52,61 +92,13 @@ fn is_sharper_minified(mag: Filter, min: Filter) -> bool
 }
 
 /// Whether the filter weights four texels of a level, and does not take the nearest.
-fn is_linear(filter: Filter) -> bool
+pub fn is_linear(filter: Filter) -> bool
     ensures { result ≡ weights_texels filter }
 {
     matches!(
         filter,
         Filter::Linear | Filter::LinearMipmapNearest | Filter::LinearMipmapLinear
     )
-}
-
-fn single(linear: bool, level: u8) -> LevelChoice
-    ensures { result ≡ single_level linear level }
-{
-    LevelChoice {
-        linear,
-        level,
-        weight: 0,
-    }
-}
-
-/// The choice where the texture is minified, for a lambda of `detail` / 256.
-fn minified(filter: Filter, last: u8, detail: u32) -> LevelChoice
-    requires { detail ≤ 12287 }
-    ensures { result ≡ minified_choice filter last detail }
-{
-    match filter {
-        Filter::Nearest => single(false, 0),
-        Filter::Linear => single(true, 0),
-        Filter::NearestMipmapNearest => single(false, nearest_level(last, detail)),
-        Filter::LinearMipmapNearest => single(true, nearest_level(last, detail)),
-        Filter::NearestMipmapLinear => two_levels(false, last, detail),
-        Filter::LinearMipmapLinear => two_levels(true, last, detail),
-    }
-}
-
-/// The level nearest to a lambda above 0, the lower of two that are equally near, at most the last.
-fn nearest_level(last: u8, detail: u32) -> u8
-    requires { detail ≤ 12287 }
-    ensures { result ≡ nearest_of last detail }
-{
-    ((detail + 128 + 255) / 256 - 1).min(u32::from(last)) as u8
-}
-
-/// The level below a lambda, and how much the next one counts; the last level alone from there on.
-fn two_levels(linear: bool, last: u8, detail: u32) -> LevelChoice
-    ensures { result ≡ two_of linear last detail }
-{
-    if detail / 256 < u32::from(last) {
-        LevelChoice {
-            linear,
-            level: (detail / 256) as u8,
-            weight: (detail % 256) as u8,
-        }
-    } else {
-        single(linear, last)
-    }
 }
 
 /// Whether the choice goes by rho at all. Where it does not, it is the one for a rho of 0.

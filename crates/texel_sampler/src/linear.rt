@@ -1,24 +1,21 @@
 //! LINEAR: the four texels about the coordinates, each by how near it is.
-ghost use Rattle.std.specs.Prelude.{◌≡◌, ◌≤◌, ◌<◌, ◌^◌, false, unsigned_abs};
+ghost use Rattle.std.specs.Prelude.{◌≡◌, ◌≤◌, ◌^◌, false, unsigned_abs};
 ghost use Rattle.gl_records.specs.Complete.{is_empty_level};
 ghost use Rattle.gl_records.specs.Texel.{fraction as fraction_of, linear_about as linear_around, linear_place as linear_along, linear_texel as linear_of, lower as lower_of};
+ghost use Rattle.texel_sampler.specs.Wraps.{wrapping};
 
 use crate::lanes::weighted;
 use crate::nearest::{along, texel_in};
-use crate::wrapping::{masked, wrapped_pair};
+use crate::wrapping::{Wrapping, masked};
 use fx_arith::Fx;
-use gl_records::{Level, Sampler};
+use gl_records::Level;
 
-pub fn linear_texel(sampler: Sampler, level: &Level, s: Fx, t: Fx) -> [u8; 4]
+#[inline(always)]
+pub fn linear_texel<S: Wrapping, T: Wrapping>(level: &Level, s: Fx, t: Fx) -> [u8; 4]
     requires { is_empty_level level.now ≡ false }
-    ensures { result ≡ linear_of sampler level.now s.0 t.0 }
+    ensures { result ≡ linear_of (wrapping S.wrap T.wrap) level.now s.0 t.0 }
 {
-    linear_about(
-        sampler,
-        level,
-        linear_place(s, level.w),
-        linear_place(t, level.h),
-    )
+    linear_about::<S, T>(level, linear_place(s, level.w), linear_place(t, level.h))
 }
 
 /// The coordinate along a side of `side` texels, in 1/256 texel from the centre of the first.
@@ -30,15 +27,16 @@ fn linear_place(coordinate: Fx, side: u16) -> i64
 }
 
 /// The colour about a place of the level, in 1/256 texel along both sides.
-fn linear_about(sampler: Sampler, level: &Level, u: i64, v: i64) -> [u8; 4]
+#[inline(always)]
+fn linear_about<S: Wrapping, T: Wrapping>(level: &Level, u: i64, v: i64) -> [u8; 4]
     requires texels { is_empty_level level.now ≡ false }
     requires u { unsigned_abs u ≤ 2 ^ 56 }
     requires v { unsigned_abs v ≤ 2 ^ 56 }
-    ensures { result ≡ linear_around sampler level.now u v }
+    ensures { result ≡ linear_around (wrapping S.wrap T.wrap) level.now u v }
 {
     let (i, j) = (lower(u), lower(v));
-    let (left, right) = wrapped_pair(sampler.wrap_s, level.w, i);
-    let (under, over) = wrapped_pair(sampler.wrap_t, level.h, j);
+    let (left, right) = S::pair(level.w, i);
+    let (under, over) = T::pair(level.h, j);
     weighted(
         fraction(u),
         fraction(v),

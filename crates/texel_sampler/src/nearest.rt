@@ -3,21 +3,18 @@ ghost use Rattle.std.specs.Prelude.{◌≡◌, pos, ◌≤◌, ◌<◌, ◌^◌,
 ghost use Rattle.fx_arith.specs.Number.{floor_div};
 ghost use Rattle.gl_records.specs.Complete.{is_empty_level};
 ghost use Rattle.gl_records.specs.Texel.{nearest_place as nearest_along, nearest_texel as nearest_of, texel_about as texel_around, texel_at as texel_of_level};
+ghost use Rattle.texel_sampler.specs.Wraps.{wrapping};
 
-use crate::wrapping::wrapped;
+use crate::wrapping::Wrapping;
 use fx_arith::Fx;
-use gl_records::{Level, Sampler};
+use gl_records::Level;
 
-pub fn nearest_texel(sampler: Sampler, level: &Level, s: Fx, t: Fx) -> [u8; 4]
+#[inline(always)]
+pub fn nearest_texel<S: Wrapping, T: Wrapping>(level: &Level, s: Fx, t: Fx) -> [u8; 4]
     requires { is_empty_level level.now ≡ false }
-    ensures { result ≡ nearest_of sampler level.now s.0 t.0 }
+    ensures { result ≡ nearest_of (wrapping S.wrap T.wrap) level.now s.0 t.0 }
 {
-    texel_about(
-        sampler,
-        level,
-        nearest_place(s, level.w),
-        nearest_place(t, level.h),
-    )
+    texel_about::<S, T>(level, nearest_place(s, level.w), nearest_place(t, level.h))
 }
 
 /// The place along a side of `side` texels in which the coordinate lies.
@@ -37,15 +34,12 @@ pub fn along(coordinate: i64, side: u16) -> i64
 }
 
 /// The texel at a place, which may lie outside of the level, R G B A.
-pub fn texel_about(sampler: Sampler, level: &Level, i: i64, j: i64) -> [u8; 4]
+#[inline(always)]
+fn texel_about<S: Wrapping, T: Wrapping>(level: &Level, i: i64, j: i64) -> [u8; 4]
     requires { is_empty_level level.now ≡ false }
-    ensures { result ≡ texel_around sampler level.now i j }
+    ensures { result ≡ texel_around (wrapping S.wrap T.wrap) level.now i j }
 {
-    texel_at(
-        level,
-        wrapped(sampler.wrap_s, level.w, i),
-        wrapped(sampler.wrap_t, level.h, j),
-    )
+    texel_at(level, S::place(level.w, i), T::place(level.h, j))
 }
 
 /// The texel in a column and a row, R G B A.

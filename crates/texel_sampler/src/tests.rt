@@ -2,7 +2,7 @@ ghost use Rattle.std.specs.Prelude.{◌<◌};
 
 use crate::detail::lambda;
 use crate::places::{COLUMNS_CLAMPED, COLUMNS_REPEATED, Place, ROWS_CLAMPED, ROWS_REPEATED};
-use crate::{asks_for_rho, choose, texel};
+use crate::{ImageSampler, asks_for_rho, choose, texel};
 use fx_arith::Fx;
 use gl_records::{ImageSet, Level, LevelChoice, Sampler, Texels, is_complete, last_level};
 use gl_tokens::{BaseFormat, Filter, Wrap};
@@ -288,6 +288,81 @@ fn blends_of_levels(rt: HostRuntime) -> Result<(), Fail> {
     for (min, rho, want) in table {
         let sampler = repeating(Filter::Nearest, min);
         assert_eq!(rt; sampled(&rt, &set, sampler, 12345, -54321, rho), want);
+    }
+    Ok(())
+}
+
+const ALL_FILTERS: [Filter; 6] = [
+    Filter::Nearest,
+    Filter::Linear,
+    Filter::NearestMipmapNearest,
+    Filter::LinearMipmapNearest,
+    Filter::NearestMipmapLinear,
+    Filter::LinearMipmapLinear,
+];
+
+/// Rho of a row of pixels: lambdas of no level, below and above 0, 1/2 and 1, between levels and behind the last.
+const ROW_OF_RHOS: [u64; 16] = [
+    0,
+    1,
+    65536,
+    65792,
+    81920,
+    98304,
+    98560,
+    131071,
+    131072,
+    150000,
+    196608,
+    197120,
+    262144,
+    270000,
+    1048576,
+    1 << 47,
+];
+
+/// A row of pixels beside the same pixels one by one.
+fn row_is_as_pixels(rt: &impl Abort, set: &ImageSet, sampler: Sampler, bits: u16) {
+    let mut s = [Fx(0); 16];
+    let mut t = [Fx(0); 16];
+    for i in 0..16 {
+        s[i] = Fx(12345 * i as i32 - 98304);
+        t[i] = Fx(65536 - 9876 * i as i32);
+    }
+    assert!(rt; is_complete(set, sampler));
+    let mut texels = [[0; 4]; 16];
+    ImageSampler::new(set, sampler).texels(bits, &s, &t, &ROW_OF_RHOS, &mut texels);
+    for i in 0..16 {
+        let wanted = sampled(rt, set, sampler, s[i].0, t[i].0, ROW_OF_RHOS[i]);
+        assert!(rt; bits >> i & 1 == 0 || texels[i] == wanted);
+    }
+}
+
+fn rows_are_as_pixels(rt: &impl Abort, set: &ImageSet, mag: Filter, min: Filter) {
+    let table = [
+        (Wrap::Repeat, Wrap::Repeat, 0xffff),
+        (Wrap::Repeat, Wrap::ClampToEdge, 0xffff),
+        (Wrap::ClampToEdge, Wrap::Repeat, 0xffff),
+        (Wrap::ClampToEdge, Wrap::ClampToEdge, 0xffff),
+        (Wrap::Repeat, Wrap::ClampToEdge, 0x0a58),
+        (Wrap::ClampToEdge, Wrap::Repeat, 0x8001),
+        (Wrap::Repeat, Wrap::Repeat, 0x8000),
+        (Wrap::Repeat, Wrap::Repeat, 0),
+    ];
+    for (wrap_s, wrap_t, bits) in table {
+        row_is_as_pixels(rt, set, sampler(mag, min, wrap_s, wrap_t), bits);
+    }
+}
+
+#[test]
+fn rows_as_their_pixels(rt: HostRuntime) -> Result<(), Fail> {
+    let first = level(rt.alloc(), 4, 2, &FOUR_BY_TWO)?;
+    let second = level(rt.alloc(), 2, 1, &[[255, 101, 100, 0], [3, 200, 50, 90]])?;
+    let third = level(rt.alloc(), 1, 1, &[[7, 8, 9, 10]])?;
+    let set = image(first, second, third);
+    for min in ALL_FILTERS {
+        rows_are_as_pixels(&rt, &set, Filter::Nearest, min);
+        rows_are_as_pixels(&rt, &set, Filter::Linear, min);
     }
     Ok(())
 }

@@ -2,34 +2,59 @@
 ghost use Rattle.std.specs.Prelude.{◌≡◌, pos, ◌<◌, ◌≤◌, ◌-◌, ◌^◌, ◌+ℤ◌, true, unsigned_abs};
 ghost use Rattle.std.specs.Int.{int_rem_euclid, is_power_of_two};
 ghost use Rattle.fx_arith.specs.Number.{clamp};
+ghost use Rattle.gl_tokens.specs.declared.wrap.Wrap.{Wrap};
+ghost use Rattle.gl_tokens.specs.declared.wrap.Wrap.TheVariants as modes;
 ghost use Rattle.gl_records.specs.Texel.{wrapped as wrapped_place};
 
-use gl_tokens::Wrap;
+/// A wrap mode: which texel a place outside of an image stands for. Each mode is a type, so that loops over pixels choose
+/// none.
+pub trait Wrapping {
+    // the mode
+    ghost wrap: { Wrap };
 
-/// The texel along a side of `side` texels that a place stands for.
-pub fn wrapped(wrap: Wrap, side: u16, place: i64) -> u16
-    requires { 0 < side }
-    ensures value { result ≡ wrapped_place wrap side place }
-    ensures bound { result < side }
-{
-    match wrap {
-        Wrap::Repeat => repeated(side, place),
-        Wrap::ClampToEdge => clamped(side, place),
+    /// The texel along a side of `side` texels that a place stands for.
+    fn place(side: u16, place: i64) -> u16
+        requires { 0 < side }
+        ensures value { result ≡ wrapped_place wrap side place }
+        ensures bound { result < side };
+
+    /// The texels that a place and the next stand for.
+    fn pair(side: u16, place: i64) -> (u16, u16)
+        requires side { 0 < side }
+        requires place { unsigned_abs place ≤ 2 ^ 56 }
+        ensures first { result.0 ≡ wrapped_place wrap side place }
+        ensures second { result.1 ≡ wrapped_place wrap side (place +ℤ pos 1) }
+        ensures first_bound { result.0 < side }
+        ensures second_bound { result.1 < side };
+}
+
+/// REPEAT.
+pub struct Repeating;
+
+impl Wrapping for Repeating {
+    ghost wrap = { modes.Repeat };
+
+    fn place(side: u16, place: i64) -> u16 {
+        repeated(side, place)
+    }
+
+    fn pair(side: u16, place: i64) -> (u16, u16) {
+        repeated_pair(side, place)
     }
 }
 
-/// The texels that a place and the next stand for.
-pub fn wrapped_pair(wrap: Wrap, side: u16, place: i64) -> (u16, u16)
-    requires side { 0 < side }
-    requires place { unsigned_abs place ≤ 2 ^ 56 }
-    ensures first { result.0 ≡ wrapped_place wrap side place }
-    ensures second { result.1 ≡ wrapped_place wrap side (place +ℤ pos 1) }
-    ensures first_bound { result.0 < side }
-    ensures second_bound { result.1 < side }
-{
-    match wrap {
-        Wrap::Repeat => repeated_pair(side, place),
-        Wrap::ClampToEdge => (clamped(side, place), clamped(side, place + 1)),
+/// CLAMP_TO_EDGE.
+pub struct Clamping;
+
+impl Wrapping for Clamping {
+    ghost wrap = { modes.ClampToEdge };
+
+    fn place(side: u16, place: i64) -> u16 {
+        clamped(side, place)
+    }
+
+    fn pair(side: u16, place: i64) -> (u16, u16) {
+        (clamped(side, place), clamped(side, place + 1))
     }
 }
 

@@ -3,11 +3,12 @@ use Rattle.std.specs.Prelude.{pos, ◌+ℤ◌, FitsSigned}
 use Rattle.std.specs.Int.{w64}
 use Rattle.std.proofs.lemmas.Int.{fits_signed_from_abs, ints, to_z-of_z}
 use Rattle.gl_records.specs.Texel.{fraction, lower, wrapped}
+use Rattle.texel_sampler.specs.Wraps.{wrapping}
 use Rattle.texel_sampler.proofs.About.{linear_about-parts, texel_about-is}
 use Rattle.texel_sampler.proofs.linear.linear_about.Goals as goal
 
 pub returns : goal.returns
-returns c =
+returns g c =
     let i = c.lower-i.result in
     let j = c.lower-j.result in
     let fits_u = c.ranges.u in
@@ -20,14 +21,14 @@ returns c =
     let lower_j : j ≡ lower c.args.v = simp to_z-of_z at c.lower-j.ensures.value in
     let a : c.fraction.result ≡ fraction c.args.u = simp to_z-of_z at c.fraction.ensures in
     let b : c.fraction-2.result ≡ fraction c.args.v = simp to_z-of_z at c.fraction-2.ensures in
-    let left : c.wrapped_pair-left.result.0 ≡ wrapped c.args.sampler.wrap_s c.args.level.now.w i = simp to_z-of_z at c.wrapped_pair-left.ensures.first in
-    let right : c.wrapped_pair-left.result.1 ≡ wrapped c.args.sampler.wrap_s c.args.level.now.w (i +ℤ pos 1) = simp to_z-of_z at c.wrapped_pair-left.ensures.second in
-    let under : c.wrapped_pair-under.result.0 ≡ wrapped c.args.sampler.wrap_t c.args.level.now.h j = simp to_z-of_z at c.wrapped_pair-under.ensures.first in
-    let over : c.wrapped_pair-under.result.1 ≡ wrapped c.args.sampler.wrap_t c.args.level.now.h (j +ℤ pos 1) = simp to_z-of_z at c.wrapped_pair-under.ensures.second in
-    let about = texel_about-is c.args.sampler c.args.level.now in
-    let low_low = about i j c.wrapped_pair-left.result.0 c.wrapped_pair-under.result.0 c.texel_in.result left under c.texel_in.ensures in
-    let high_low = about (i +ℤ pos 1) j c.wrapped_pair-left.result.1 c.wrapped_pair-under.result.0 c.texel_in-2.result right under c.texel_in-2.ensures in
-    let low_high = about i (j +ℤ pos 1) c.wrapped_pair-left.result.0 c.wrapped_pair-under.result.1 c.texel_in-3.result left over c.texel_in-3.ensures in
-    let high_high = about (i +ℤ pos 1) (j +ℤ pos 1) c.wrapped_pair-left.result.1 c.wrapped_pair-under.result.1 c.texel_in-4.result right over c.texel_in-4.ensures in
+    let left : c.pair-left.result.0 ≡ wrapped g.S.Wrapping.wrap c.args.level.now.w i = simp to_z-of_z at c.pair-left.ensures.first in
+    let right : c.pair-left.result.1 ≡ wrapped g.S.Wrapping.wrap c.args.level.now.w (i +ℤ pos 1) = simp to_z-of_z at c.pair-left.ensures.second in
+    let under : c.pair-under.result.0 ≡ wrapped g.T.Wrapping.wrap c.args.level.now.h j = simp to_z-of_z at c.pair-under.ensures.first in
+    let over : c.pair-under.result.1 ≡ wrapped g.T.Wrapping.wrap c.args.level.now.h (j +ℤ pos 1) = simp to_z-of_z at c.pair-under.ensures.second in
+    let about = texel_about-is (wrapping g.S.Wrapping.wrap g.T.Wrapping.wrap) c.args.level.now in
+    let low_low = about i j c.pair-left.result.0 c.pair-under.result.0 c.texel_in.result left under c.texel_in.ensures in
+    let high_low = about (i +ℤ pos 1) j c.pair-left.result.1 c.pair-under.result.0 c.texel_in-2.result right under c.texel_in-2.ensures in
+    let low_high = about i (j +ℤ pos 1) c.pair-left.result.0 c.pair-under.result.1 c.texel_in-3.result left over c.texel_in-3.ensures in
+    let high_high = about (i +ℤ pos 1) (j +ℤ pos 1) c.pair-left.result.1 c.pair-under.result.1 c.texel_in-4.result right over c.texel_in-4.ensures in
     c.weighted.ensures
-    ∙ linear_about-parts c.args.sampler c.args.level.now c.args.u c.args.v i j _ _ _ _ _ _ lower_i lower_j a b low_low high_low low_high high_high
+    ∙ linear_about-parts (wrapping g.S.Wrapping.wrap g.T.Wrapping.wrap) c.args.level.now c.args.u c.args.v i j _ _ _ _ _ _ lower_i lower_j a b low_low high_low low_high high_high

@@ -1,24 +1,23 @@
-use Rattle.std.proofs.Common.{◌≡◌, ◌∙◌, ◌+◌, ℕ, length, ap, rules}
-use Rattle.gl_records.specs.Complete.{level_at}
-use Rattle.gl_records.specs.Sampling.{filtered, level_color}
-use Rattle.texel_sampler.proofs.Blends.{first_alone, two_blended}
+use Rattle.std.proofs.Common.{◌∙◌}
+use Rattle.gl_tokens.specs.declared.wrap.Wrap.TheVariants.{ClampToEdge, Repeat}
+use Rattle.texel_sampler.proofs.ByWraps.{filtered-wraps}
 use Rattle.texel_sampler.proofs.sampling.filter.Goals as goal
 
-pub returns-then-choice-eq0 : goal.returns-then-choice-eq0
-unfolding filtered
-returns-then-choice-eq0 c =
-    let color = λ (k : ℕ). level_color c.args.choice.linear c.args.sampler (level_at c.args.set.now k) c.args.s.0 c.args.t.0 in
-    let level = c.args.choice.level in
-    let four : length c.level_color-first.result ≡ 4 = search rules in
-    let first : c.level_color-first.result ≡ color level = c.level_color-first.ensures ∙ ap color c.from-level.ensures in
-    first_alone c.args.choice.weight c.level_color-first.result (color level) (color (level + 1)) c.if-choice-eq0.true four first
+pub returns-in-Repeat-Repeat : goal.returns-in-Repeat-Repeat
+returns-in-Repeat-Repeat c =
+    c.filter_by.ensures ∙ filtered-wraps c.args.set.now c.args.sampler c.args.choice c.args.s.0 c.args.t.0 Repeat Repeat c.in-Repeat-Repeat.is-0 c.in-Repeat-Repeat.is-1
 
-pub returns-else-choice-eq0 : goal.returns-else-choice-eq0
-unfolding filtered
-returns-else-choice-eq0 c =
-    let color = λ (k : ℕ). level_color c.args.choice.linear c.args.sampler (level_at c.args.set.now k) c.args.s.0 c.args.t.0 in
-    let level = c.args.choice.level in
-    let first : c.level_color-first.result ≡ color level = c.level_color-first.ensures ∙ ap color c.from-level.ensures in
-    let second : c.level_color.result ≡ color (level + 1) = c.level_color.ensures ∙ ap (λ k. color (k + 1)) c.from-level.ensures in
-    c.blended.ensures
-    ∙ two_blended c.args.choice.weight c.level_color-first.result c.level_color.result (color level) (color (level + 1)) first second
+pub returns-in-Repeat-ClampToEdge : goal.returns-in-Repeat-ClampToEdge
+returns-in-Repeat-ClampToEdge c =
+    c.filter_by-in-Repeat-ClampToEdge.ensures
+    ∙ filtered-wraps c.args.set.now c.args.sampler c.args.choice c.args.s.0 c.args.t.0 Repeat ClampToEdge c.in-Repeat-ClampToEdge.is-0 c.in-Repeat-ClampToEdge.is-1
+
+pub returns-in-ClampToEdge-Repeat : goal.returns-in-ClampToEdge-Repeat
+returns-in-ClampToEdge-Repeat c =
+    c.filter_by-in-ClampToEdge-Repeat.ensures
+    ∙ filtered-wraps c.args.set.now c.args.sampler c.args.choice c.args.s.0 c.args.t.0 ClampToEdge Repeat c.in-ClampToEdge-Repeat.is-0 c.in-ClampToEdge-Repeat.is-1
+
+pub returns-in-ClampToEdge-ClampToEdge : goal.returns-in-ClampToEdge-ClampToEdge
+returns-in-ClampToEdge-ClampToEdge c =
+    c.filter_by-in-ClampToEdge-ClampToEdge.ensures
+    ∙ filtered-wraps c.args.set.now c.args.sampler c.args.choice c.args.s.0 c.args.t.0 ClampToEdge ClampToEdge c.in-ClampToEdge-ClampToEdge.is-0 c.in-ClampToEdge-ClampToEdge.is-1
