@@ -1,11 +1,10 @@
 -- The depth of a primitive whose corners have the same one.
-use Rattle.std.specs.Prelude.{◌≡◌, ℤ, pos, negsuc, ◌+ℤ◌, ◌*ℤ◌, ◌<ℤ◌, IsTrue, unsigned_abs}
+use Rattle.std.specs.Prelude.{◌≡◌, ℤ, pos, ◌+ℤ◌, ◌*ℤ◌, ◌<ℤ◌, IsTrue, unsigned_abs}
 use Rattle.std.proofs.Common.{ap, arith}
 use Rattle.std.proofs.lemmas.Int.{ints}
 use Rattle.std.proofs.Math.IntN.{*ℤ_comm}
 use Rattle.coverage.proofs.WeightLemmas.{AreWeights-covered}
 use Rattle.fx_arith.specs.Number.{clamp, floor_div}
-use Rattle.fx_arith.proofs.Floors.{floor_div-multiple}
 use Rattle.fx_arith.proofs.Products.{+ℤ-*ℤ}
 use Rattle.gl_records.specs.declared.pixel.TheConstants.{GREATEST_DEPTH}
 use Rattle.gl_records.specs.declared.prim.Primitive.{Primitive}
@@ -13,10 +12,7 @@ use Rattle.gl_records.specs.Coverage.{corner, covers}
 use Rattle.gl_records.specs.Depth.{depth}
 use Rattle.gl_records.specs.Valid.{IsInRange}
 use Rattle.gl_records.specs.Weights.{weight, weighted_sum}
-
-over_itself : (w t : ℤ) → pos 0 <ℤ w → floor_div (t *ℤ w) (unsigned_abs w) ≡ t
-over_itself (pos n) t some = floor_div-multiple t n (omega (arith, ints))
-over_itself (negsuc n) t some = absurd (omega (arith, ints))
+use Rattle.interpolation.proofs.Scaled.{over_itself}
 
 one_share : (t a b c : ℤ) → (a *ℤ t) +ℤ (b *ℤ t) +ℤ (c *ℤ t) ≡ (a +ℤ b +ℤ c) *ℤ t
 one_share t a b c = omega (arith, ints, +ℤ-*ℤ (a +ℤ b) c t, +ℤ-*ℤ a b t)

@@ -1,4 +1,5 @@
 pub mod Bounds
+pub mod ChannelRows
 pub mod Colors
 pub mod DepthSums
 pub mod Factors
@@ -6,6 +7,7 @@ pub mod Fogs
 pub mod Frames
 pub mod Levels
 pub mod Neighbors
+pub mod Placed
 pub mod Places
 pub mod Positive
 pub mod Scaled

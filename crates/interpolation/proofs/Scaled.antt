@@ -115,7 +115,8 @@ sum-same p value n x y are =
     rw (are.first, are.second, are.third)
     (same_sum (weight p 0 x y) (weight p 1 x y) (weight p 2 x y) (pos (factor p (corner p 0))) (pos (factor p (corner p 1))) (pos (factor p (corner p 2))) n)
 
-over_itself : (d n : ℤ) → pos 0 <ℤ d → floor_div (n *ℤ d) (unsigned_abs d) ≡ n
+-- a multiple of a number above 0, divided by it
+pub over_itself : (d n : ℤ) → pos 0 <ℤ d → floor_div (n *ℤ d) (unsigned_abs d) ≡ n
 over_itself (pos m) n positive = floor_div-multiple n m (omega (arith, ints, positive))
 over_itself (negsuc m) n positive = absurd (omega (arith, ints))
 

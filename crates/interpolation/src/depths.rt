@@ -1,8 +1,7 @@
 //! The depths of a primitive, tile by tile.
-ghost use Rattle.std.specs.Prelude.{◌≡◌, ℕ, ℤ, pos, ◌<◌, ◌≤◌, ◌≤ℤ◌, ◌-ℤ◌, ◌*ℤ◌, ◌+ℤ◌, ◌*◌, ◌^◌, IfSome, IsTrue, unsigned_abs};
+ghost use Rattle.std.specs.Prelude.{◌≡◌, ℕ, ℤ, pos, ◌<◌, ◌≤◌, ◌*ℤ◌, ◌+ℤ◌, ◌*◌, ◌^◌, IfSome, IsTrue, unsigned_abs};
 ghost use Rattle.fx_arith.specs.Number.{clamp};
 ghost use Rattle.plane_equations.specs.Planes.{plane_at};
-ghost use Rattle.gl_records.specs.declared.prim.VertexOut.{VertexOut};
 ghost use Rattle.gl_records.specs.Coverage.{corner, covers};
 ghost use Rattle.gl_records.specs.Depth.{depth as depth_of};
 ghost use Rattle.gl_records.specs.Valid.{IsInRange};

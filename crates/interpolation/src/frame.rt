@@ -13,6 +13,7 @@ ghost use Rattle.interpolation.specs.TileValues.{AreThirdsOne, AreUnitRatiosOf, 
 
 use crate::channels::{Channels, Color};
 use crate::divisor::Divisor;
+use crate::flat::flat_color;
 use crate::ratio::Ratio;
 use crate::shares::Shares;
 use crate::sharing::sum;
@@ -112,12 +113,10 @@ impl<'a> Frame<'a> {
         requires { IfSome divisor.now (IsDivisorOf self.now) }
         ensures { IsColorOf self.now result }
     {
-        let [a, b, c] = &self.prim.verts;
-        if a.rgba == b.rgba && a.rgba == c.rgba {
-            let [red, green, blue, alpha] = a.rgba;
-            return Color::One([red, green, blue, alpha]);
+        match flat_color(self.prim) {
+            Some(color) => Color::One(color),
+            None => self.smooth_color(divisor),
         }
-        self.smooth_color(divisor)
     }
 
     fn smooth_color(&self, divisor: &Option<Divisor>) -> Color

@@ -12,6 +12,8 @@
 
 mod channels;
 mod color;
+mod color_rows;
+mod coordinate_rows;
 mod coordinates;
 #[cfg(test)]
 mod depth_tests;

@@ -1,5 +1,5 @@
 //! How much the corners of a primitive count at a pixel, and how much more at the next ones.
-ghost use Rattle.std.specs.Prelude.{◌≡◌, pos, ◌-ℤ◌, ◌≤◌, if◌then◌else◌};
+ghost use Rattle.std.specs.Prelude.{◌≡◌, ◌-ℤ◌, if◌then◌else◌};
 ghost use Rattle.gl_records.specs.Valid.{IsInRange};
 ghost use Rattle.interpolation.specs.Factors.{has_one_q};
 ghost use Rattle.interpolation.specs.Frames.{AreScaled, AreSlopes};

@@ -1,8 +1,9 @@
 //! Values that are prepared for a tile beside the plain ones, on primitives from a fixed sequence of numbers.
-ghost use Rattle.std.specs.Prelude.{◌≡◌, ℕ, pos, ◌+◌, ◌<◌, ◌≤◌, IsTrue, if◌then◌else◌};
+ghost use Rattle.std.specs.Prelude.{◌≡◌, ℕ, ◌<◌, ◌≤◌, IsTrue, if◌then◌else◌};
 ghost use Rattle.std.specs.Int.{bit_at};
 ghost use Rattle.gl_records.specs.Coverage.{covers};
 ghost use Rattle.gl_records.specs.Valid.{IsCornerInRange, IsInRange};
+ghost use Rattle.interpolation.specs.Rows.{AreSpotsOf, IsSpotAt};
 ghost use Rattle.interpolation.specs.TileValues.{IsSpotOf, x_of, y_of};
 
 use crate::fog::fog_byte;
@@ -10,6 +11,7 @@ use crate::spot::Spot;
 use crate::texture_coordinates::coordinates_at;
 use crate::values::{Asked, PrimitiveValues, TileValues};
 use coverage::rows;
+use fx_arith::Fx;
 use gl_records::{PixelBox, Prim, PrimKind, TileRect, VertexOut};
 use std::process::Abort;
 use std::test::Fail;
@@ -131,6 +133,83 @@ fn compare_row(rt: &impl Abort, values: &TileValues<'_>, bits: u16, r: u16)
             compare_covered(rt, values, &spot);
         }
     }
+    compare_rows(rt, values, bits, r);
+}
+
+/// The same of the whole row at once.
+fn compare_rows(rt: &impl Abort, values: &TileValues<'_>, bits: u16, r: u16)
+    requires row { r < 16 }
+    requires bits { (i : ℕ) → i < 16 → bit_at bits i ≡ (if covers values.now.prim (x_of values.now i) (y_of values.now r) then 1 else 0) }
+{
+    let spot = Spot {
+        column: 0,
+        row: 0,
+        by: None,
+    };
+    let mut spots = [spot; 17];
+    values.spot_row(r, 0, 17, &mut spots);
+    compare_coordinate_row(rt, values, 0, r, &spots);
+    compare_coordinate_row(rt, values, 1, r, &spots);
+    compare_color_row(rt, values, bits, r, &spots);
+}
+
+fn compare_coordinate_row(
+    rt: &impl Abort,
+    values: &TileValues<'_>,
+    unit: usize,
+    r: u16,
+    spots: &[Spot; 17],
+)
+    requires unit { unit < 2 }
+    requires row { r < 16 }
+    requires spots { AreSpotsOf values.now r 0 17 spots.now }
+{
+    let mut s = [Fx(0); 17];
+    let mut t = [Fx(0); 17];
+    if values.coordinate_row(unit, spots, r, 0, 17, &mut s, &mut t) {
+        for i in 0..17 {
+            let plain = coordinates_at(values.prim(), unit, &values.shares(&spots[i]));
+            assert_eq!(rt; s[i].0, plain.s.0);
+            assert_eq!(rt; t[i].0, plain.t.0);
+            assert_eq!(rt; true, plain.known);
+        }
+    }
+}
+
+fn compare_color_row(
+    rt: &impl Abort,
+    values: &TileValues<'_>,
+    bits: u16,
+    r: u16,
+    spots: &[Spot; 17],
+)
+    requires row { r < 16 }
+    requires bits { (i : ℕ) → i < 16 → bit_at bits i ≡ (if covers values.now.prim (x_of values.now i) (y_of values.now r) then 1 else 0) }
+    requires spots { AreSpotsOf values.now r 0 17 spots.now }
+{
+    let mut colors = [[0; 4]; 16];
+    if values.color_row(spots, bits, r, 0, 17, &mut colors) {
+        for i in 0..16u16 {
+            if bits >> i & 1 == 1 {
+                let spot = &spots[usize::from(i)];
+                compare_color(rt, values, colors[usize::from(i)], spot, i, r);
+            }
+        }
+    }
+}
+
+fn compare_color(
+    rt: &impl Abort,
+    values: &TileValues<'_>,
+    color: [u8; 4],
+    spot: &Spot,
+    _i: u16,
+    _r: u16,
+)
+    requires spot { IsSpotAt values.now _i _r spot.now }
+    requires covered { IsTrue (covers values.now.prim (x_of values.now _i) (y_of values.now _r)) }
+{
+    assert_eq!(rt; color, values.plain_color(spot));
 }
 
 fn compare_coordinates(rt: &impl Abort, values: &TileValues<'_>, spot: &Spot)

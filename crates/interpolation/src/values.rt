@@ -1,5 +1,6 @@
 //! The values of a primitive, tile by tile.
-ghost use Rattle.std.specs.Prelude.{◌≡◌, ℕ, ℤ, pos, ◌+◌, ◌<◌, ◌≤◌, ◌≤ℤ◌, ◌<ℤ◌, IfSome, IsTrue, unsigned_abs};
+ghost use Rattle.std.specs.Int.{bit_at};
+ghost use Rattle.std.specs.Prelude.{◌≡◌, [], get_or, ℕ, ℤ, pos, ◌+◌, ◌<◌, ◌≤◌, ◌≤ℤ◌, ◌<ℤ◌, IfSome, IsTrue, true, unsigned_abs};
 ghost use Rattle.plane_equations.specs.Planes.{plane_at};
 ghost use Rattle.gl_records.specs.declared.prim.VertexOut.{VertexOut};
 ghost use Rattle.gl_records.specs.Coverage.{covers};
@@ -8,11 +9,14 @@ ghost use Rattle.gl_records.specs.Interpolation.{component as component_of, inte
 ghost use Rattle.gl_records.specs.Valid.{IsInRange};
 ghost use Rattle.interpolation.specs.Coordinates.{AreCoordinates};
 ghost use Rattle.interpolation.specs.Factors.{scaled_total};
-ghost use Rattle.interpolation.specs.Shares.{AreShares, AreSmall};
+ghost use Rattle.interpolation.specs.Rows.{AreRowCoordinates, AreRowValues, AreSpotsOf};
+ghost use Rattle.interpolation.specs.Shares.{AreShares};
 ghost use Rattle.interpolation.specs.TileValues.{AreChannelsOf, AreUnitRatiosOf, IsChannelOf, IsDivisorOf, IsFogOf, IsRatioOf, IsSpotOf, OnTile, value_at, x_of, y_of};
 
 use crate::channels::{Channels, Color};
 use crate::color::interpolated_color;
+use crate::color_rows::{ChannelRows, joined_row};
+use crate::coordinate_rows::{divided_row, fixed_row, flat_row};
 use crate::coordinates::Coordinates;
 use crate::divisor::Divisor;
 use crate::fog::fog_byte as shared_fog_byte;
@@ -24,7 +28,7 @@ use crate::slopes::{Slopes, slopes_of};
 use crate::spot::Spot;
 use crate::texture_coordinates::coordinates_at;
 use crate::unit_ratios::UnitRatios;
-use fx_arith::{c8, saturate};
+use fx_arith::{Fx, c8, saturate};
 use gl_records::{GREATEST_SIDE, Prim, TileRect};
 use plane_equations::Reciprocal;
 use std::marker::Model;
@@ -275,6 +279,135 @@ impl<'a> TileValues<'a> {
             s: saturate(self.quotient(&ratios.s, by, spot)),
             t: saturate(self.quotient(&ratios.t, by, spot)),
             known: true,
+        }
+    }
+
+    /// The pixels of a row of the tile, or of the one beyond, in the columns from `from` up to but not including `to`.
+    pub fn spot_row(&self, row: u16, from: usize, to: usize, spots: &mut [Spot; 17])
+        requires row { row ≤ 16 }
+        requires to { to ≤ 17 }
+        ensures { AreSpotsOf self.now row from to spots.new }
+    {
+        for i in from..to {
+            spots[i] = self.spot(i as u16, row);
+        }
+    }
+
+    /// The texture coordinates of a unit at these pixels of a row. Where they can't be found by what is prepared the
+    /// answer is no.
+    pub fn coordinate_row(
+        &self,
+        unit: usize,
+        spots: &[Spot; 17],
+        row: u16,
+        from: usize,
+        to: usize,
+        s: &mut [Fx; 17],
+        t: &mut [Fx; 17],
+    ) -> bool
+        requires unit { unit < 2 }
+        requires row { row ≤ 16 }
+        requires to { to ≤ 17 }
+        requires spots { AreSpotsOf self.now row from to spots.now }
+        ensures { result ≡ true → AreRowCoordinates self.now unit row from to s.new t.new }
+    {
+        match (self.ratios_of(unit), &self.divisor) {
+            (Some(ratios), Some(_)) => {
+                self.ratio_row(&ratios.s, spots, row, from, to, s)
+                    && self.ratio_row(&ratios.t, spots, row, from, to, t)
+            }
+            _ => false,
+        }
+    }
+
+    /// The colours before texturing at the pixels of a row whose bits are set, all of which the primitive covers and are
+    /// among these. Where they can't be found by what is prepared the answer is no.
+    pub fn color_row(
+        &self,
+        spots: &[Spot; 17],
+        _bits: u16,
+        row: u16,
+        from: usize,
+        to: usize,
+        colors: &mut [[u8; 4]; 16],
+    ) -> bool
+        requires row { row ≤ 16 }
+        requires to { to ≤ 17 }
+        requires spots { AreSpotsOf self.now row from to spots.now }
+        requires among { (i : ℕ) → i < 16 → bit_at _bits i ≡ 1 → (from ≤ i) × (i < to) }
+        requires covered { (i : ℕ) → i < 16 → bit_at _bits i ≡ 1 → IsTrue (covers self.now.prim (x_of self.now i) (y_of self.now row)) }
+        ensures { result ≡ true → (i : ℕ) → i < 16 → bit_at _bits i ≡ 1
+            → get_or colors.new i [] ≡ color_of_corners self.now.prim (x_of self.now i) (y_of self.now row) }
+    {
+        match (&self.color, &self.divisor) {
+            (Color::Smooth(channels), Some(_)) => {
+                self.smooth_row(channels, spots, row, from, to, colors)
+            }
+            _ => false,
+        }
+    }
+
+    fn smooth_row(
+        &self,
+        channels: &Channels,
+        spots: &[Spot; 17],
+        row: u16,
+        from: usize,
+        to: usize,
+        colors: &mut [[u8; 4]; 16],
+    ) -> bool
+        requires row { row ≤ 16 }
+        requires to { to ≤ 17 }
+        requires spots { AreSpotsOf self.now row from to spots.now }
+        requires channels { AreChannelsOf self.now channels.now }
+        requires positive { (i : ℕ) → i ≤ 16 → pos 0 <ℤ scaled_total self.now.prim (x_of self.now i) (y_of self.now row) }
+        ensures { result ≡ true → (i : ℕ) → from ≤ i → i < to → i < 16 → IsTrue (covers self.now.prim (x_of self.now i) (y_of self.now row))
+            → get_or colors.new i [] ≡ color_of_corners self.now.prim (x_of self.now i) (y_of self.now row) }
+    {
+        let _ = &self.prim;
+        let mut rows = ChannelRows::new();
+        if !self.ratio_row(&channels.red, spots, row, from, to, &mut rows.red) {
+            return false;
+        }
+        if !self.ratio_row(&channels.green, spots, row, from, to, &mut rows.green) {
+            return false;
+        }
+        if !self.ratio_row(&channels.blue, spots, row, from, to, &mut rows.blue) {
+            return false;
+        }
+        if !self.ratio_row(&channels.alpha, spots, row, from, to, &mut rows.alpha) {
+            return false;
+        }
+        joined_row(&rows, colors);
+        true
+    }
+
+    /// A prepared value at these pixels, as a GLfixed.
+    fn ratio_row(
+        &self,
+        ratio: &Ratio,
+        spots: &[Spot; 17],
+        row: u16,
+        from: usize,
+        to: usize,
+        values: &mut [Fx; 17],
+    ) -> bool
+        requires row { row ≤ 16 }
+        requires to { to ≤ 17 }
+        requires spots { AreSpotsOf self.now row from to spots.now }
+        requires positive { (i : ℕ) → i ≤ 16 → pos 0 <ℤ scaled_total self.now.prim (x_of self.now i) (y_of self.now row) }
+        ensures { (value : VertexOut → ℤ) → IsRatioOf self.now value ratio.now → result ≡ true → AreRowValues self.now value row from to values.new }
+    {
+        match ratio {
+            Ratio::Flat(value) => {
+                flat_row(*value, from, to, values);
+                true
+            }
+            Ratio::Fixed(plane) => {
+                fixed_row(plane, row, from, to, values);
+                true
+            }
+            Ratio::Divided(plane) => divided_row(plane, spots, row, from, to, values),
         }
     }
 

@@ -1,0 +1,9 @@
+use Rattle.std.specs.Prelude.{◌≡◌, ◌<◌, ◌≤◌, ℕ, length}
+use Rattle.fx_arith.specs.Number.{component, nearest_fixed}
+use Rattle.interpolation.proofs.coordinate_rows.flat_row.Given as goal
+
+abbrev pub invariant-loop-i : goal.invariant-loop-i
+invariant-loop-i l = record {
+  len : length l.values ≡ 17;
+  done : (j : ℕ) → l.from ≤ j → j < l.i → component l.values j ≡ nearest_fixed l.fn.value;
+}
