@@ -6,6 +6,7 @@ use Rattle.gl_records.specs.declared.prim.Primitive.{Primitive}
 use Rattle.gl_records.specs.declared.tile.TileRect.{TileRect}
 use Rattle.gl_records.specs.Shading.{AreReadable, shaded}
 use Rattle.gl_records.specs.Valid.{IsInRange}
+use Rattle.interpolation.specs.TileValues.{OnTile as PrimitiveOnTile}
 
 pub record Subject : Type 0 where
   pub state : FragState
@@ -22,6 +23,10 @@ pub record IsSubject (subject : Subject) : Type 0 where
 pub record OnTile : Type 0 where
   pub subject : Subject
   pub rect : TileRect
+
+-- the primitive there
+abbrev pub primitive_on : OnTile → PrimitiveOnTile
+primitive_on on = record { prim = on.subject.prim; rect = on.rect }
 
 -- the colour at a pixel
 abbrev pub color_of : Subject → (x y : ℕ) → List ℕ

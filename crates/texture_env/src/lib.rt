@@ -9,22 +9,30 @@
 //! ```
 #![tactic(auto)]
 
+mod bits;
 mod combine;
 #[cfg(test)]
 mod combine_tests;
+mod coordinate_rows;
 mod environment;
 #[cfg(test)]
 mod environment_tests;
 mod fog;
 mod functions;
+mod line;
+mod lines;
+mod modes;
 mod moves;
+mod row_values;
+mod rows;
 mod shader;
 mod shading;
 #[cfg(test)]
 mod shading_tests;
-mod spots;
 mod tile_unit;
 mod unit;
+mod unit_line;
 
+pub use lines::Lines;
 pub use shader::{Shader, TileShader};
 pub use shading::{shade, shade_plainly};

@@ -1,6 +1,6 @@
 //! The scale factor rho (OpenGL ES 1.1.12, 3.7, "Texture Minification"), by the coordinates at the pixel and at the next
 //! ones.
-ghost use Rattle.std.specs.Prelude.{◌≡◌, ℤ, pos, ◌<◌, ◌^◌};
+ghost use Rattle.std.specs.Prelude.{◌≡◌, ℤ, ◌<◌};
 ghost use Rattle.gl_records.specs.LevelOfDetail.{moved as moved_along, rho as rho_of};
 ghost use Rattle.gl_records.specs.Valid.{IsInRange};
 ghost use Rattle.interpolation.specs.Coordinates.{AreCoordinates};

@@ -1,11 +1,12 @@
 //! Whole pixels. Coordinates, levels and colours come from a script outside of the program, over fractions.
-ghost use Rattle.std.specs.Prelude.{IsTrue};
+ghost use Rattle.std.specs.Prelude.{◌<◌, ℕ, IsTrue, slice_index};
 ghost use Rattle.std.specs.Option.{option_copied};
 ghost use Rattle.gl_records.specs.Shading.{IsReadable};
 ghost use Rattle.gl_records.specs.Valid.{IsCornerInRange, IsInRange};
+ghost use Rattle.texture_env.specs.Rows.{AreCovered};
 
 use crate::environment_tests::{COLOR, CONSTANT, PREVIOUS, PRIMARY, TEXEL, UNIT, unit};
-use crate::{Shader, shade, shade_plainly};
+use crate::{Lines, Shader, TileShader, shade, shade_plainly};
 use coverage::rows;
 use gl_records::{
     Combine, Env, FragState, ImageSet, Level, PixelBox, Prim, PrimKind, Sampler, Texels, TileRect,
@@ -94,7 +95,23 @@ fn is_readable(unit: &Option<UnitState>, image: Option<&ImageSet>) -> bool
     }
 }
 
-/// The colour at a pixel of the first tile, which the primitive has to cover: prepared for the tile, and plain.
+/// The colour at a pixel by its row, behind the one below it.
+fn by_row(on_tile: &TileShader<'_>, covered: &[u16; 16], x: u16, y: u16) -> [u8; 4]
+    requires column { x < 16 }
+    requires row { y < 16 }
+    requires covered { (r : ℕ) → r < 16 → AreCovered on_tile.now (slice_index covered.now r) r }
+{
+    let below = y.saturating_sub(1);
+    let mut lines = Lines::new();
+    lines.forget();
+    let mut colors = [[0; 4]; 16];
+    on_tile.colors(covered[usize::from(below)], below, &mut lines, &mut colors);
+    on_tile.colors(covered[usize::from(y)], y, &mut lines, &mut colors);
+    colors[usize::from(x)]
+}
+
+/// The colour at a pixel of the first tile, which the primitive has to cover: by its row, behind the one below it, alone,
+/// and plain.
 fn shaded(
     rt: &impl Abort,
     state: &FragState,
@@ -110,12 +127,13 @@ fn shaded(
     assert!(rt; is_readable(&state.units[0], first));
     assert!(rt; is_readable(&state.units[1], second));
     let tile = TileRect { x0: 0, y0: 0 };
-    let row = rows(prim, tile)[usize::from(y)];
+    let covered = rows(prim, tile);
+    let row = covered[usize::from(y)];
     if row >> x & 1 == 1 {
-        let shader = Shader::new(state, first, second, prim);
-        let prepared = shader.on_tile(tile).color(u16::from(x), u16::from(y));
         let plain = shade_plainly(state, first, second, prim, i32::from(x), i32::from(y));
         let alone = shade(state, first, second, prim, i32::from(x), i32::from(y));
+        let shader = Shader::new(state, first, second, prim);
+        let prepared = by_row(&shader.on_tile(tile), &covered, u16::from(x), u16::from(y));
         assert_eq!(rt; prepared, plain);
         assert_eq!(rt; alone, plain);
         prepared

@@ -1,24 +1,23 @@
-//! A texture unit at a pixel, by values that are prepared for a tile.
-ghost use Rattle.std.specs.Prelude.{◌≡◌, ℕ, ◌<◌, true, Option};
+//! A texture unit along a row of a tile.
+ghost use Rattle.std.specs.Prelude.{◌≡◌, ℕ, ◌<◌, [], false, true, get_or, Option, slice_index};
+ghost use Rattle.std.specs.Int.{bit_at};
 ghost use Rattle.std.specs.Option.{option_copied};
 ghost use Rattle.gl_records.specs.declared.level.ImageSet.{ImageSet as ImageSetOf};
 ghost use Rattle.gl_records.specs.declared.unit_state.UnitState.{UnitState as UnitStateOf};
 ghost use Rattle.gl_records.specs.Complete.{is_complete, last_level as last_of};
 ghost use Rattle.gl_records.specs.LevelChoice.{chosen};
-ghost use Rattle.gl_records.specs.LevelOfDetail.{rho as rho_of};
 ghost use Rattle.gl_records.specs.Shading.{IsReadable};
 ghost use Rattle.gl_records.specs.TextureEnvironment.{environment as environment_of, image_rho, textured as textured_color, unit_texel as texel_of_unit};
-ghost use Rattle.interpolation.specs.Coordinates.{AreCoordinates};
 ghost use Rattle.interpolation.specs.TileValues.{x_of, y_of};
-ghost use Rattle.texture_env.specs.Spots.{AreSpots};
+ghost use Rattle.texture_env.specs.Rows.{HaveColors};
 ghost use Rattle.texture_env.specs.TextureUnits.{IsUnitOf};
 
-use crate::environment::environment;
-use crate::moves::greatest_move;
-use crate::spots::{Spots, next_spots};
+use crate::coordinate_rows::{coordinate_row, rho_row};
+use crate::environment::environment_row;
+use crate::row_values::RowValues;
 use crate::unit::{height, width};
-use gl_records::{ImageSet, PrimKind, UnitState};
-use interpolation::{Coordinates, TileValues};
+use fx_arith::Fx;
+use gl_records::{ImageSet, UnitState};
 use std::marker::Model;
 use texel_sampler::ImageSampler;
 
@@ -58,53 +57,59 @@ impl<'a> TileUnit<'a> {
         }
     }
 
-    /// The colour behind the unit at a pixel of the tile, where it is unit `k`.
-    fn color(
+    /// The colours behind the unit, where it is unit `k`, at the pixels of a row whose bits are set. `colors` come in,
+    /// and are left as the unit makes them.
+    pub fn color_row(
         &self,
-        values: &TileValues<'_>,
+        at: &RowValues<'_>,
         k: usize,
-        spots: &Spots,
-        primary: [u8; 4],
-        previous: [u8; 4],
-    ) -> [u8; 4]
-        requires unit { k < 2 }
-        requires column { spots.now.here.column < 16 }
-        requires row { spots.now.here.row < 16 }
-        requires spots { AreSpots values.now spots.now }
-        ensures { result ≡ environment_of self.now.unit
-            (texel_of_unit self.now.unit self.now.set values.now.prim k (x_of values.now spots.now.here.column) (y_of values.now spots.now.here.row)) primary previous }
+        bits: u16,
+        primary: &[[u8; 4]; 16],
+        colors: &mut [[u8; 4]; 16],
+    )
+        requires { k < 2 }
+        ensures { (i : ℕ) → i < 16 → bit_at bits i ≡ 1
+            → get_or colors.new i [] ≡ environment_of self.now.unit
+            (texel_of_unit self.now.unit self.now.set at.now.on.prim k (x_of at.now.on i) (y_of at.now.on at.now.row)) (get_or primary.now i []) (get_or colors.old i []) }
     {
-        let texel = self.texel(values, k, spots);
-        environment(self.unit, texel, primary, previous)
+        let mut texels = [[0; 4]; 16];
+        self.texel_row(at, k, bits, &mut texels);
+        environment_row(self.unit, bits, &texels, primary, colors);
     }
 
-    fn texel(&self, values: &TileValues<'_>, k: usize, spots: &Spots) -> [u8; 4]
-        requires unit { k < 2 }
-        requires column { spots.now.here.column < 16 }
-        requires row { spots.now.here.row < 16 }
-        requires spots { AreSpots values.now spots.now }
-        ensures { result ≡ texel_of_unit self.now.unit self.now.set values.now.prim k (x_of values.now spots.now.here.column) (y_of values.now spots.now.here.row) }
+    /// The unit's texels at the pixels of a row whose bits are set.
+    fn texel_row(&self, at: &RowValues<'_>, k: usize, bits: u16, texels: &mut [[u8; 4]; 16])
+        requires { k < 2 }
+        ensures { HaveColors bits
+            (λ i. texel_of_unit self.now.unit self.now.set at.now.on.prim k (x_of at.now.on i) (y_of at.now.on at.now.row)) texels.new }
     {
-        let at = values.coordinates(k, &spots.here);
-        let rho = self.asked_rho(values, k, spots, at);
-        self.image.texel(at.s, at.t, rho)
+        let mut s = [Fx(0); 16];
+        let mut t = [Fx(0); 16];
+        coordinate_row(at, k, bits, &mut s, &mut t);
+        let rhos = self.asked_rhos(at, k, bits);
+        self.image.texels(bits, &s, &t, &rhos, texels);
     }
 
-    /// Rho where the sampler's choice of levels goes by it, and 0 where it doesn't.
-    fn asked_rho(&self, values: &TileValues<'_>, k: usize, spots: &Spots, at: Coordinates) -> u64
-        requires unit { k < 2 }
-        requires column { spots.now.here.column < 16 }
-        requires row { spots.now.here.row < 16 }
-        requires spots { AreSpots values.now spots.now }
-        requires at { AreCoordinates at values.now.prim k (x_of values.now spots.now.here.column) (y_of values.now spots.now.here.row) }
-        ensures { chosen self.now.unit.sampler (last_of self.now.set) result
-            ≡ chosen self.now.unit.sampler (last_of self.now.set) (image_rho self.now.set values.now.prim k (x_of values.now spots.now.here.column) (y_of values.now spots.now.here.row)) }
+    /// Each rho where the sampler's choice of levels goes by it, and 0 where it doesn't.
+    fn asked_rhos(&self, at: &RowValues<'_>, k: usize, bits: u16) -> [u64; 16]
+        requires { k < 2 }
+        ensures { (i : ℕ) → i < 16 → bit_at bits i ≡ 1
+            → chosen self.now.unit.sampler (last_of self.now.set) (slice_index result i)
+            ≡ chosen self.now.unit.sampler (last_of self.now.set) (image_rho self.now.set at.now.on.prim k (x_of at.now.on i) (y_of at.now.on at.now.row)) }
     {
-        if self.image.asks_for_rho() {
-            rho_at(self.w, self.h, values, k, spots, at)
-        } else {
-            0
+        let mut rhos = [0; 16];
+        if !self.image.asks_for_rho() {
+            return rhos;
         }
+        rho_row(at, k, self.w, self.h, bits, &mut rhos);
+        rhos
+    }
+
+    /// Whether the unit asks for the coordinates at the next pixels too.
+    pub fn asks_for_next(&self) -> bool
+        ensures { result ≡ false → (rho : ℕ) → chosen self.now.unit.sampler (last_of self.now.set) rho ≡ chosen self.now.unit.sampler (last_of self.now.set) 0 }
+    {
+        self.image.asks_for_rho()
     }
 }
 
@@ -122,56 +127,29 @@ pub fn tile_unit<'a>(
     }
 }
 
-/// The colour behind unit `k` at a pixel of the tile. A unit that is off, or has no image, leaves the colour as it comes
-/// in.
-#[inline(always)]
-pub fn textured_at(
+/// The colours behind unit `k` at the pixels of a row whose bits are set. A unit that is off, or has no image, leaves the
+/// colours as they come in.
+pub fn textured_row(
     unit: &Option<TileUnit<'_>>,
-    values: &TileValues<'_>,
+    at: &RowValues<'_>,
     k: usize,
-    spots: &Spots,
-    primary: [u8; 4],
-    previous: [u8; 4],
-) -> [u8; 4]
-    requires unit { k < 2 }
-    requires column { spots.now.here.column < 16 }
-    requires row { spots.now.here.row < 16 }
-    requires spots { AreSpots values.now spots.now }
-    ensures { (asked : Option UnitStateOf) (image : Option ImageSetOf) → IsUnitOf unit.now asked image
-        → result ≡ textured_color asked image values.now.prim k (x_of values.now spots.now.here.column) (y_of values.now spots.now.here.row) primary previous }
+    bits: u16,
+    primary: &[[u8; 4]; 16],
+    colors: &mut [[u8; 4]; 16],
+)
+    requires { k < 2 }
+    ensures { (asked : Option UnitStateOf) (image : Option ImageSetOf) → IsUnitOf unit.now asked image → HaveColors bits
+        (λ i. textured_color asked image at.now.on.prim k (x_of at.now.on i) (y_of at.now.on at.now.row) (get_or primary.now i []) (get_or colors.old i [])) colors.new }
 {
-    match unit {
-        Some(unit) => unit.color(values, k, spots, primary, previous),
-        None => previous,
+    if let Some(unit) = unit {
+        unit.color_row(at, k, bits, primary, colors);
     }
 }
 
-/// Rho, in 1/65536 texel of a level 0 of `w` by `h` texels, by the coordinates here and at the next pixels.
-fn rho_at(w: u16, h: u16, values: &TileValues<'_>, k: usize, spots: &Spots, at: Coordinates) -> u64
-    requires unit { k < 2 }
-    requires column { spots.now.here.column < 16 }
-    requires row { spots.now.here.row < 16 }
-    requires spots { AreSpots values.now spots.now }
-    requires at { AreCoordinates at values.now.prim k (x_of values.now spots.now.here.column) (y_of values.now spots.now.here.row) }
-    ensures { result ≡ rho_of values.now.prim k w h (x_of values.now spots.now.here.column) (y_of values.now spots.now.here.row) }
-{
-    if let PrimKind::Point = values.prim().kind {
-        return 0;
-    }
-    let next = next_spots(values, spots);
-    greatest_move(
-        w,
-        h,
-        at,
-        values.coordinates(k, &next.right),
-        values.coordinates(k, &next.above),
-    )
-}
-
-/// Whether the unit asks for the coordinates at the next pixels too.
+/// Whether the unit asks for the coordinates at the next pixels too, which makes no difference to a colour.
 pub fn asks_for_next(unit: &Option<TileUnit<'_>>) -> bool {
     match unit {
-        Some(unit) => unit.image.asks_for_rho(),
+        Some(unit) => unit.asks_for_next(),
         None => false,
     }
 }

@@ -1,7 +1,7 @@
 //! A texture unit at a pixel.
 ghost use Rattle.std.specs.Prelude.{◌≡◌, ℤ, ◌<◌, true};
 ghost use Rattle.std.specs.Option.{option_copied};
-ghost use Rattle.gl_records.specs.Complete.{is_complete, last_level as last_of, level_at};
+ghost use Rattle.gl_records.specs.Complete.{is_complete, last_level as last_of};
 ghost use Rattle.gl_records.specs.LevelChoice.{chosen};
 ghost use Rattle.gl_records.specs.Shading.{IsReadable};
 ghost use Rattle.gl_records.specs.TextureEnvironment.{height_of, image_rho, textured as textured_color, unit_texel as texel_of_unit, width_of};
