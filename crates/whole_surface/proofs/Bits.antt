@@ -1,10 +1,10 @@
 -- Bits of rows under a box.
-use Rattle.std.proofs.Common.{◌≡◌, ◌<◌, ◌+◌, ◌-◌, ◌*◌, ◌/◌, ◌≤◌, ◌%◌, ◌^◌, ℕ, Bool, true, false, ◌&&◌, refl, arith, min}
+use Rattle.std.proofs.Common.{◌≡◌, ◌<◌, ◌+◌, ◌-◌, ◌*◌, ◌/◌, ◌≤◌, ◌%◌, ◌^◌, ◌⊎◌, inl, inr, ◌∙◌, ap, ℕ, Bool, true, false, ◌&&◌, refl, arith, min}
 use Rattle.std.specs.Prelude.{List, slice_index, Option, if◌then◌else◌, bit_and, bit_or, bit_xor}
 use Rattle.std.specs.Int.Bits.{and_zero_r, or_zero_l}
-use Rattle.std.proofs.lemmas.Bool.{false≢true}
+use Rattle.std.proofs.lemmas.Bool.{cases_lt, false≢true}
 use Rattle.std.proofs.lemmas.Nat.{and_mask, pow-add}
-use Rattle.std.proofs.lemmas.Nat.Bits.{bit_at-zero, bit_at_above}
+use Rattle.std.proofs.lemmas.Nat.Bits.{bit_at-lt, bit_at-zero, bit_at_above}
 use Rattle.std.specs.Int.{bit_at}
 use Rattle.gl_records.specs.declared.frag_state.FragState.{FragState}
 use Rattle.gl_records.specs.declared.level.ImageSet.{ImageSet}
@@ -12,9 +12,10 @@ use Rattle.gl_records.specs.declared.pixel.Pixel.{Pixel}
 use Rattle.gl_records.specs.declared.prim.Primitive.{Primitive}
 use Rattle.gl_records.specs.Captured.{Draw}
 use Rattle.gl_records.specs.After.{step}
+use Rattle.gl_records.specs.Draw.{draw_step}
 use Rattle.texture_env.specs.Shaders.{OnTile}
 use Rattle.whole_surface.specs.Parts.{shown}
-use Rattle.whole_surface.specs.Subjects.{shown_on, step_on}
+use Rattle.whole_surface.specs.Subjects.{drawing_of, drawn_on, shown_on, step_on}
 
 -- a bit under a column's bit, in a row that the box has
 pub held_bit : (column low high : Bool) (bit : ℕ) → bit < 2 → low ≡ true → high ≡ true
@@ -44,14 +45,50 @@ none_behind n j i less from =
     let fits : n < 2 ^ (1 + j) = rw (pow-add 2 1 j) less in
     bit_at_above n (1 + j) i fits (omega arith)
 
--- ---- where no bit is set, no pixel is shown
-clear_bit : (b : Bool) (bit : ℕ) → bit ≡ (if b then 1 else 0) → bit ≡ 0 → b ≡ false
+-- a bit is set or it isn't
+bit_cases : (bit : ℕ) → bit < 2 → (0 < bit) ⊎ (bit ≤ 0) → (bit ≡ 1) ⊎ (bit ≡ 0)
+bit_cases bit small (inl more) = inl (omega arith)
+bit_cases bit small (inr none) = inr (omega arith)
+
+pub cases_bit : (n i : ℕ) → (bit_at n i ≡ 1) ⊎ (bit_at n i ≡ 0)
+cases_bit n i = bit_cases (bit_at n i) (bit_at-lt n i) (cases_lt 0 (bit_at n i))
+
+-- ---- a pixel whose bit is set is shown, and where no bit is set no pixel is
+pub set_bit : (b : Bool) (bit : ℕ) → bit ≡ (if b then 1 else 0) → bit ≡ 1 → b ≡ true
+set_bit true bit e one = refl
+set_bit false bit e one = absurd (omega arith)
+
+pub clear_bit : (b : Bool) (bit : ℕ) → bit ≡ (if b then 1 else 0) → bit ≡ 0 → b ≡ false
 clear_bit true bit e zero = absurd (omega arith)
 clear_bit false bit e zero = refl
 
 step-unshown : (prim : Primitive) (state : FragState) (first second : Option ImageSet) (x y : ℕ) (pixel : Pixel) → shown prim state x y ≡ false
     → step (Draw prim state first second) x y pixel ≡ pixel
 step-unshown prim state first second x y pixel h = rw h refl
+
+step-shown : (prim : Primitive) (state : FragState) (first second : Option ImageSet) (x y : ℕ) (pixel : Pixel) → shown prim state x y ≡ true
+    → step (Draw prim state first second) x y pixel ≡ draw_step prim state first second x y pixel
+step-shown prim state first second x y pixel h = rw h refl
+
+step_at : (on : OnTile) (row i : ℕ) (pixel : Pixel) → i < 16
+    → step_on on (16 * row + i) pixel ≡ step (drawing_of on.subject) (on.rect.x0 + i) (on.rect.y0 + row) pixel
+step_at on row i pixel within =
+    let column : (16 * row + i) % 16 ≡ i = omega arith in
+    let up : (16 * row + i) / 16 ≡ row = omega arith in
+    ap (λ (k : ℕ). step (drawing_of on.subject) (on.rect.x0 + k) (on.rect.y0 + (16 * row + i) / 16) pixel) column
+    ∙ ap (λ (k : ℕ). step (drawing_of on.subject) (on.rect.x0 + i) (on.rect.y0 + k) pixel) up
+
+pub step_shown : (on : OnTile) (row i : ℕ) (pixel : Pixel) → i < 16 → shown_on on i row ≡ true
+    → step_on on (16 * row + i) pixel ≡ drawn_on on i row pixel
+step_shown on row i pixel within h =
+    let s = on.subject in
+    step_at on row i pixel within ∙ step-shown s.prim s.state s.first s.second (on.rect.x0 + i) (on.rect.y0 + row) pixel h
+
+pub step_unshown : (on : OnTile) (row i : ℕ) (pixel : Pixel) → i < 16 → shown_on on i row ≡ false
+    → step_on on (16 * row + i) pixel ≡ pixel
+step_unshown on row i pixel within h =
+    let s = on.subject in
+    step_at on row i pixel within ∙ step-unshown s.prim s.state s.first s.second (on.rect.x0 + i) (on.rect.y0 + row) pixel h
 
 pub unshown_run : (on : OnTile) (r bits from to : ℕ) → to ≤ 16 → ((i : ℕ) → from ≤ i → i < to → bit_at bits i ≡ 0)
     → ((i : ℕ) → i < 16 → bit_at bits i ≡ (if shown_on on i r then 1 else 0))

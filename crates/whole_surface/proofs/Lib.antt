@@ -1,4 +1,5 @@
 pub mod Bits
+pub mod RowPaints
 pub mod Spans
 pub mod Sums
 pub mod TileLemmas

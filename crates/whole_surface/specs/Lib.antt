@@ -1,3 +1,4 @@
+pub mod Asked
 pub mod Items
 pub mod Paints
 pub mod Parts

@@ -7,12 +7,11 @@ use Rattle.gl_records.specs.declared.frag_state.FragState.{FragState}
 use Rattle.gl_records.specs.Blending.{blended_color}
 use Rattle.gl_records.specs.Fragment.{blend}
 use Rattle.interpolation.specs.TileValues.{OnTile as PrimitiveOnTile}
-use Rattle.texture_env.specs.Shaders.{OnTile}
+use Rattle.texture_env.specs.Shaders.{OnTile, primitive_on}
 use Rattle.whole_surface.specs.declared.stages.Finish.{Finish}
 use Rattle.whole_surface.specs.declared.stages.Finish.TheVariants as finish
 use Rattle.whole_surface.specs.declared.stages.Tests.{Tests}
 use Rattle.whole_surface.specs.declared.stages.Tests.TheVariants as tests
-use Rattle.whole_surface.specs.Subjects.{primitive_on}
 
 abbrev pub nearer : Bool → Compare
 nearer equal = if equal then LessOrEqual else Less

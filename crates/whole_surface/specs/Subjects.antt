@@ -1,10 +1,11 @@
 -- A primitive with its state and images, as an item, and on one tile.
-use Rattle.std.specs.Prelude.{ℕ, pos, ◌+◌, Bool}
+use Rattle.std.specs.Prelude.{ℕ, pos, ◌+◌, Bool, List}
 use Rattle.gl_records.specs.declared.pixel.Pixel.{Pixel}
 use Rattle.gl_records.specs.Captured.{Captured, Draw}
 use Rattle.gl_records.specs.Coverage.{covers}
+use Rattle.gl_records.specs.Depth.{depth}
 use Rattle.gl_records.specs.Draw.{draw_step}
-use Rattle.interpolation.specs.TileValues.{OnTile as PrimitiveOnTile}
+use Rattle.gl_records.specs.Fragment.{pixel_step}
 use Rattle.texture_env.specs.Shaders.{OnTile, Subject}
 use Rattle.whole_surface.specs.Parts.{shown, tile_step}
 
@@ -28,6 +29,7 @@ abbrev pub drawn_on : OnTile → (column row : ℕ) → Pixel → Pixel
 drawn_on on column row pixel =
     draw_step on.subject.prim on.subject.state on.subject.first on.subject.second (on.rect.x0 + column) (on.rect.y0 + row) pixel
 
--- the primitive there
-abbrev pub primitive_on : OnTile → PrimitiveOnTile
-primitive_on on = record { prim = on.subject.prim; rect = on.rect }
+-- the pixel there after a fragment of this colour, with the primitive's depth
+abbrev pub drawn_with : OnTile → (column row : ℕ) → List ℕ → Pixel → Pixel
+drawn_with on column row rgba pixel =
+    pixel_step on.subject.state (record { rgba = rgba; z = depth on.subject.prim (pos (on.rect.x0 + column)) (pos (on.rect.y0 + row)) }) pixel

@@ -1,12 +1,12 @@
 //! A brush for any state of fragments.
-ghost use Rattle.std.specs.Prelude.{◌≡◌, ◌+◌, ◌<◌, pos, IsSome, IsTrue, None};
+ghost use Rattle.std.specs.Prelude.{◌≡◌, ◌+◌, ◌<◌, pos, IsSome, IsTrue, None, false};
 ghost use Rattle.gl_records.specs.Depth.{depth as depth_of};
+ghost use Rattle.whole_surface.specs.Asked.{IsUnasked};
 ghost use Rattle.whole_surface.specs.Stages.{AreAskedDepths};
-ghost use Rattle.whole_surface.specs.Subjects.{covered_on, drawn_on};
+ghost use Rattle.whole_surface.specs.Subjects.{covered_on, drawn_with};
 
 use crate::brush::Brush;
 use crate::painter::Painter;
-use crate::source::Source;
 use fragment_ops::{pixel_step, tests};
 use gl_records::{Frag, Pixel};
 use interpolation::TileDepths;
@@ -14,13 +14,13 @@ use std::marker::Model;
 
 /// Takes each fragment through all stages.
 #[derive(Drop)]
-pub struct AllStages<'a, S: Source> {
-    painter: &'a Painter<'a, S>,
+pub struct AllStages<'a> {
+    painter: &'a Painter<'a>,
     /// There where the depth test is on.
     depths: Option<TileDepths<'a>>,
 }
 
-impl<'a, S: Source> Model for AllStages<'a, S> {
+impl<'a> Model for AllStages<'a> {
     ghost use Rattle.texture_env.specs.Shaders.{OnTile};
 
     ghost Value = { OnTile };
@@ -32,8 +32,8 @@ impl<'a, S: Source> Model for AllStages<'a, S> {
     ghost invariant = { λ a. AreAskedDepths a.painter.now a.depths };
 }
 
-impl<'a, S: Source> AllStages<'a, S> {
-    pub fn new(painter: &'a Painter<'a, S>) -> AllStages<'a, S>
+impl<'a> AllStages<'a> {
+    pub fn new(painter: &'a Painter<'a>) -> AllStages<'a>
         ensures { result ≡ painter.now }
     {
         AllStages {
@@ -56,56 +56,34 @@ impl<'a, S: Source> AllStages<'a, S> {
         }
     }
 
-    /// The colour is found first, for the alpha test.
-    fn after_alpha_test(&self, column: u16, row: u16, under: Pixel) -> Pixel
-        requires column { column < 16 }
-        requires row { row < 16 }
-        requires covered { IsTrue (covered_on self.now column row) }
-        ensures { result ≡ drawn_on self.now column row under }
-    {
-        let painter = self.painter;
-        let rgba = painter.color(column, row);
-        let z = self.asked_depth(column, row);
-        let drawing = painter.drawing;
-        pixel_step(drawing.state, Frag { rgba, z }, under)
-    }
-
-    /// The colour is found last, for a fragment that passes.
-    fn after_other_tests(&self, column: u16, row: u16, under: Pixel) -> Pixel
+    /// Whether the fragment passes the tests, of which the alpha test is none.
+    fn passes(&self, column: u16, row: u16, pixel: Pixel) -> bool
         requires column { column < 16 }
         requires row { row < 16 }
         requires covered { IsTrue (covered_on self.now column row) }
         requires no_alpha_test { self.now.subject.state.alpha ≡ None }
-        ensures { result ≡ drawn_on self.now column row under }
+        ensures { result ≡ false → IsUnasked self.now column row false pixel }
     {
         let z = self.asked_depth(column, row);
         let painter = self.painter;
         let drawing = painter.drawing;
-        let (passes, tested) = tests(drawing.state, Frag { rgba: [0; 4], z }, under);
-        if !passes {
-            return tested;
-        }
-        let rgba = painter.finished(column, row, tested.rgba);
-        Pixel { rgba, ..tested }
+        tests(drawing.state, Frag { rgba: [0; 4], z }, pixel).0
     }
 
-    fn after_all(&self, column: u16, row: u16, under: Pixel) -> Pixel
+    fn after(&self, column: u16, row: u16, rgba: [u8; 4], under: Pixel) -> Pixel
         requires column { column < 16 }
         requires row { row < 16 }
         requires covered { IsTrue (covered_on self.now column row) }
-        ensures { result ≡ drawn_on self.now column row under }
+        ensures { result ≡ drawn_with self.now column row rgba under }
     {
+        let z = self.asked_depth(column, row);
         let painter = self.painter;
         let drawing = painter.drawing;
-        if drawing.state.alpha.is_some() {
-            self.after_alpha_test(column, row, under)
-        } else {
-            self.after_other_tests(column, row, under)
-        }
+        pixel_step(drawing.state, Frag { rgba, z }, under)
     }
 }
 
-fn asked_depths<'a, S: Source>(painter: &Painter<'a, S>) -> Option<TileDepths<'a>>
+fn asked_depths<'a>(painter: &Painter<'a>) -> Option<TileDepths<'a>>
     ensures { AreAskedDepths painter.now result }
 {
     let drawing = painter.drawing;
@@ -116,10 +94,33 @@ fn asked_depths<'a, S: Source>(painter: &Painter<'a, S>) -> Option<TileDepths<'a
     }
 }
 
-impl<'a, S: Source> Brush for AllStages<'a, S> {
+impl<'a> Brush for AllStages<'a> {
     ghost on = { λ a. a };
 
-    fn paint(&self, column: u16, row: u16, pixel: &mut Pixel) {
-        *pixel = self.after_all(column, row, *pixel);
+    ghost keeps = { false };
+
+    fn keeps_unasked(&self) -> bool {
+        false
+    }
+
+    /// The alpha test goes by the colour.
+    fn asks_for_all(&self) -> bool {
+        let painter = self.painter;
+        let drawing = painter.drawing;
+        drawing.state.alpha.is_some()
+    }
+
+    fn asks(&self, column: u16, row: u16, pixel: &Pixel) -> bool {
+        let painter = self.painter;
+        let drawing = painter.drawing;
+        if drawing.state.alpha.is_some() {
+            true
+        } else {
+            self.passes(column, row, *pixel)
+        }
+    }
+
+    fn paint(&self, column: u16, row: u16, color: [u8; 4], pixel: &mut Pixel) {
+        *pixel = self.after(column, row, color, *pixel);
     }
 }

@@ -13,9 +13,16 @@ use crate::images::Images;
 use crate::paint::Paint;
 use gl_records::{GREATEST_SIDE, Item, Size, TileRect};
 use surface_tiles::Tile;
+use texture_env::Lines;
 
 /// Draws the item with these images on the tiles of a surface of this size.
-pub fn draw_item(item: &Item, images: &Images<'_>, size: Size, tiles: &mut [Tile])
+pub fn draw_item(
+    item: &Item,
+    images: &Images<'_>,
+    size: Size,
+    lines: &mut Lines,
+    tiles: &mut [Tile],
+)
     requires sides { IsSize size }
     requires drawable { IsDrawable (captured_by item.now images.now.first images.now.second) size }
     requires count { length tiles.old ≡ tile_count size }
@@ -27,7 +34,7 @@ pub fn draw_item(item: &Item, images: &Images<'_>, size: Size, tiles: &mut [Tile
     let area = paint.area(size);
     let columns = tiles_of(area.x0, area.x1);
     let bands = tiles_of(area.y0, area.y1);
-    draw_bands(&paint, size, columns, bands, tiles);
+    draw_bands(&paint, size, columns, bands, lines, tiles);
 }
 
 /// Tiles that lie side by side, numbered along the surface.
@@ -56,7 +63,14 @@ fn tiles_of(from: i32, to: i32) -> Span
     }
 }
 
-fn draw_bands(paint: &Paint<'_>, size: Size, columns: Span, bands: Span, tiles: &mut [Tile])
+fn draw_bands(
+    paint: &Paint<'_>,
+    size: Size,
+    columns: Span,
+    bands: Span,
+    lines: &mut Lines,
+    tiles: &mut [Tile],
+)
     requires sides { IsSize size }
     requires drawable { IsDrawable (item_of paint.now) size }
     requires count { length tiles.old ≡ tile_count size }
@@ -69,12 +83,19 @@ fn draw_bands(paint: &Paint<'_>, size: Size, columns: Span, bands: Span, tiles: 
     ensures { AreDrawn (item_of paint.now) size 0 (tile_count size) tiles.old tiles.new }
 {
     for band in bands.first..bands.end {
-        draw_band(paint, size, columns, band, tiles);
+        draw_band(paint, size, columns, band, lines, tiles);
     }
 }
 
 /// Draws the tiles of a band, which is numbered from the bottom.
-fn draw_band(paint: &Paint<'_>, size: Size, columns: Span, band: u16, tiles: &mut [Tile])
+fn draw_band(
+    paint: &Paint<'_>,
+    size: Size,
+    columns: Span,
+    band: u16,
+    lines: &mut Lines,
+    tiles: &mut [Tile],
+)
     requires sides { IsSize size }
     requires drawable { IsDrawable (item_of paint.now) size }
     requires count { length tiles.old ≡ tile_count size }
@@ -85,11 +106,18 @@ fn draw_band(paint: &Paint<'_>, size: Size, columns: Span, band: u16, tiles: &mu
     ensures { AreDrawn (item_of paint.now) size (band * tiles_along_of size.w) ((band + 1) * tiles_along_of size.w) tiles.old tiles.new }
 {
     for column in columns.first..columns.end {
-        draw_at(paint, size, column, band, tiles);
+        draw_at(paint, size, column, band, lines, tiles);
     }
 }
 
-fn draw_at(paint: &Paint<'_>, size: Size, column: u16, band: u16, tiles: &mut [Tile])
+fn draw_at(
+    paint: &Paint<'_>,
+    size: Size,
+    column: u16,
+    band: u16,
+    lines: &mut Lines,
+    tiles: &mut [Tile],
+)
     requires sides { IsSize size }
     requires count { length tiles.old ≡ tile_count size }
     requires column { column < tiles_along_of size.w }
@@ -102,5 +130,5 @@ fn draw_at(paint: &Paint<'_>, size: Size, column: u16, band: u16, tiles: &mut [T
         x0: 16 * column,
         y0: 16 * band,
     };
-    paint.draw_on(rect, &mut tiles[number]);
+    paint.draw_on(rect, lines, &mut tiles[number]);
 }

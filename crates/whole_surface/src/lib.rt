@@ -13,6 +13,7 @@
 #![tactic(auto)]
 
 mod all_stages;
+mod asking;
 mod brush;
 mod clear;
 mod depth_source;
@@ -23,7 +24,9 @@ mod open;
 mod over;
 mod paint;
 mod painter;
+mod painting;
 mod primitive;
+mod row_sets;
 mod rows;
 mod source;
 mod stages;

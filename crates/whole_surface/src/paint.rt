@@ -11,6 +11,7 @@ use crate::images::Images;
 use crate::primitive::draw_on_tile;
 use gl_records::{GREATEST_SIDE, Item, PixelBox, Size, TileRect};
 use surface_tiles::Tile;
+use texture_env::Lines;
 
 /// How an item's pixels are written, found out once.
 #[derive(Drop)]
@@ -44,13 +45,13 @@ impl<'a> Paint<'a> {
     }
 
     /// Draws the item on the tile with this lower left pixel.
-    pub fn draw_on(&self, rect: TileRect, tile: &mut Tile)
+    pub fn draw_on(&self, rect: TileRect, lines: &mut Lines, tile: &mut Tile)
         requires column { rect.x0 ≤ GREATEST_SIDE }
         requires band { rect.y0 ≤ GREATEST_SIDE }
         ensures { IsSpan (tile_step (item_of self.now) rect) 0 256 tile.old tile.new }
     {
         match self {
-            Paint::Draw(drawing) => draw_on_tile(drawing, rect, tile),
+            Paint::Draw(drawing) => draw_on_tile(drawing, rect, lines, tile),
             Paint::Clear(clearing) => clearing.clear_on_tile(rect, tile),
         }
     }

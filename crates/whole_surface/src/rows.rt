@@ -1,10 +1,11 @@
 //! The pixels of a tile that a primitive shows, as rows of bits.
-ghost use Rattle.std.specs.Prelude.{◌≡◌, ◌≢◌, ℕ, ◌+◌, ◌<◌, ◌≤◌, Bool, IsTrue, slice_index, if◌then◌else◌};
+ghost use Rattle.std.specs.Prelude.{◌≡◌, ℕ, ◌+◌, ◌<◌, ◌≤◌, IsTrue, slice_index, if◌then◌else◌};
 ghost use Rattle.std.specs.Int.{bit_at};
 ghost use Rattle.gl_records.specs.PixelBox.{holds as box_holds};
 ghost use Rattle.gl_records.specs.Valid.{IsInRange};
 ghost use Rattle.whole_surface.specs.Parts.{in_columns, shown};
 
+use crate::row_sets::with_bit;
 use gl_records::{FragState, GREATEST_SIDE, PixelBox, Prim, TileRect};
 
 /// Which pixels of a tile the primitive covers and the scissor test lets through: bit i of row r is for pixel
@@ -69,15 +70,6 @@ fn is_column(area: &PixelBox, x: u16) -> bool
     area.x0 <= i32::from(x) && i32::from(x) < area.x1
 }
 
-/// The bits, with bit k set where `set` says so.
-fn with_bit(bits: u16, k: u16, set: bool) -> u16
-    requires { k < 16 }
-    ensures bit { bit_at result k ≡ (if set then 1 else bit_at bits k) }
-    ensures others { (j : ℕ) → j ≢ k → bit_at result j ≡ bit_at bits j }
-{
-    if set { bits | 1 << k } else { bits }
-}
-
 /// Whether no row has a bit.
 pub fn is_blank(rows: &[u16; 16]) -> bool
     ensures { IsTrue result → (r : ℕ) → r < 16 → slice_index rows.now r ≡ 0 }
@@ -88,12 +80,4 @@ pub fn is_blank(rows: &[u16; 16]) -> bool
         }
     }
     true
-}
-
-/// Whether bit i is set.
-pub fn is_set(bits: u16, i: u16) -> bool
-    requires { i < 16 }
-    ensures { (b : Bool) → bit_at bits i ≡ (if b then 1 else 0) → result ≡ b }
-{
-    bits >> i & 1 == 1
 }

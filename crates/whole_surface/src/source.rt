@@ -1,31 +1,41 @@
 //! Where the colours of a primitive's fragments come from on one tile.
-ghost use Rattle.std.specs.Prelude.{◌≡◌, pos, ◌+◌, ◌<◌, IsTrue};
-ghost use Rattle.gl_records.specs.Coverage.{covers};
-ghost use Rattle.texture_env.specs.Shaders.{OnTile, color_of};
+ghost use Rattle.std.specs.Prelude.{◌≡◌, ◌+◌, ◌<◌};
+ghost use Rattle.texture_env.specs.Lines.{AreLinesOf};
+ghost use Rattle.texture_env.specs.Rows.{AreCovered, HaveColors};
+ghost use Rattle.texture_env.specs.Shaders.{OnTile, color_of, primitive_on};
 ghost use Rattle.whole_surface.specs.Paints.{IsShadedAs};
 
 use crate::drawing::Drawing;
 use gl_records::TileRect;
 use std::marker::Model;
-use texture_env::TileShader;
+use texture_env::{Lines, TileShader};
 
 pub trait Source: Drop {
     // the primitive on its tile
     ghost on: { Self → OnTile };
 
-    /// The colour at the pixel in this column and row of the tile, which the primitive covers.
-    fn color_at(&self, column: u16, row: u16) -> [u8; 4]
-        requires column { column < 16 }
+    /// Whether each colour is found by itself, so that those that nobody asks for are better left out.
+    fn finds_each(&self) -> bool;
+
+    /// The colours at the pixels of a row of the tile whose bits are set, all of which the primitive covers. The others
+    /// are anything.
+    fn colors(&self, bits: u16, row: u16, lines: &mut Lines, colors: &mut [[u8; 4]; 16])
         requires row { row < 16 }
-        requires covered { IsTrue (covers (on self.now).subject.prim (pos ((on self.now).rect.x0 + column)) (pos ((on self.now).rect.y0 + row))) }
-        ensures { result ≡ color_of (on self.now).subject ((on self.now).rect.x0 + column) ((on self.now).rect.y0 + row) };
+        requires covered { AreCovered (on self.now) bits row }
+        requires lines { AreLinesOf (primitive_on (on self.now)) lines.old }
+        ensures colors { HaveColors bits (λ i. color_of (on self.now).subject ((on self.now).rect.x0 + i) ((on self.now).rect.y0 + row)) colors.new }
+        ensures lines { AreLinesOf (primitive_on (on self.now)) lines.new };
 }
 
 impl<'a> Source for TileShader<'a> {
     ghost on = { λ t. t };
 
-    fn color_at(&self, column: u16, row: u16) -> [u8; 4] {
-        self.color(column, row)
+    fn finds_each(&self) -> bool {
+        true
+    }
+
+    fn colors(&self, bits: u16, row: u16, lines: &mut Lines, colors: &mut [[u8; 4]; 16]) {
+        self.colors(bits, row, lines, colors);
     }
 }
 
@@ -65,7 +75,11 @@ impl<'a> OneColor<'a> {
 impl<'a> Source for OneColor<'a> {
     ghost on = { λ one. one };
 
-    fn color_at(&self, _column: u16, _row: u16) -> [u8; 4] {
-        self.color
+    fn finds_each(&self) -> bool {
+        false
+    }
+
+    fn colors(&self, _bits: u16, _row: u16, _lines: &mut Lines, colors: &mut [[u8; 4]; 16]) {
+        *colors = [self.color; 16];
     }
 }

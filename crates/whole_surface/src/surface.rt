@@ -11,11 +11,14 @@ use gl_records::{ImageSet, Item, Size};
 use std::alloc::{AllocError, Global};
 use std::marker::Model;
 use surface_tiles::Surface as Tiles;
+use texture_env::Lines;
 
 /// The whole surface.
 #[derive(Drop)]
 pub struct Surface {
     tiles: Tiles,
+    /// Room for the rows of a tile while it is drawn on.
+    lines: Lines,
 }
 
 impl Model for Surface {
@@ -40,7 +43,10 @@ impl Surface {
         ensures shaped { IfOk result (λ surface. IsShaped size surface) }
     {
         let tiles = Tiles::new(alloc, size)?;
-        Ok(Surface { tiles })
+        Ok(Surface {
+            tiles,
+            lines: Lines::new(),
+        })
     }
 
     /// Draws the item on each pixel, with these images of the two texture units. `size` is the surface's.
@@ -57,7 +63,7 @@ impl Surface {
         ensures shaped { IsShaped size self.new }
     {
         let images = Images::new(first, second);
-        draw_item(item, &images, size, self.tiles.tiles_mut());
+        draw_item(item, &images, size, &mut self.lines, self.tiles.tiles_mut());
     }
 
     /// The colours of row `y` from the bottom, R G B A for each pixel from the left. `_size` is the surface's.

@@ -1,7 +1,7 @@
 use Rattle.std.proofs.Common.{◌<◌, ◌^◌, arith}
 use Rattle.std.proofs.lemmas.Nat.Bits.{bit_at-trailing_zeros}
 use Rattle.std.specs.Int.{w16}
-use Rattle.whole_surface.proofs.brush.first_of.Goals as goal
+use Rattle.whole_surface.proofs.row_sets.first_of.Goals as goal
 
 pub returns-clause-set : goal.returns-clause-set
 returns-clause-set c =

@@ -1,6 +1,6 @@
 use Rattle.std.specs.Int.{w16}
 use Rattle.std.proofs.lemmas.Nat.Bits.{bit_at_set_same, bit_at_set_other}
-use Rattle.whole_surface.proofs.rows.with_bit.Goals as goal
+use Rattle.whole_surface.proofs.row_sets.with_bit.Goals as goal
 
 pub returns-then-set-clause-bit : goal.returns-then-set-clause-bit
 returns-then-set-clause-bit c = rw c.if-set.true (bit_at_set_same w16 c.args.bits c.args.k c.requires)
