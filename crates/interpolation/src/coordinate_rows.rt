@@ -27,13 +27,13 @@ fn widened(value: i32) -> Fx
 }
 
 /// The values of a plane in fixed point.
-pub fn fixed_row(plane: &FixedPlane, row: u16, from: usize, to: usize, values: &mut [Fx; 17])
+pub fn fixed_row(plane: FixedPlane, row: u16, from: usize, to: usize, values: &mut [Fx; 17])
     requires row { row ≤ 16 }
     requires to { to ≤ 17 }
-    ensures { (i : ℕ) → from ≤ i → i < to → component values.new i ≡ nearest_fixed (fixed_at plane.now i row) }
+    ensures { (i : ℕ) → from ≤ i → i < to → component values.new i ≡ nearest_fixed (fixed_at plane i row) }
 {
     for i in from..to {
-        values[i] = fixed_value(plane, i as u16, row);
+        values[i] = fixed_value(&plane, i as u16, row);
     }
 }
 
@@ -48,7 +48,7 @@ fn fixed_value(plane: &FixedPlane, column: u16, row: u16) -> Fx
 /// The values of a plane, each divided by what sums are divided by there. Where a reciprocal isn't there the answer is
 /// no.
 pub fn divided_row(
-    plane: &Plane,
+    plane: Plane,
     spots: &[Spot; 17],
     row: u16,
     from: usize,
@@ -58,12 +58,12 @@ pub fn divided_row(
     requires row { row ≤ 16 }
     requires to { to ≤ 17 }
     ensures { (divisor : ℕ → ℤ) → AreDivisors divisor from to spots.now → result ≡ true
-        → (i : ℕ) → from ≤ i → i < to → component values.new i ≡ nearest_fixed (floor_div (plane_at plane.now i row) (unsigned_abs (divisor i))) }
+        → (i : ℕ) → from ≤ i → i < to → component values.new i ≡ nearest_fixed (floor_div (plane_at plane i row) (unsigned_abs (divisor i))) }
 {
     for i in from..to {
         let by = spots[i].by;
         match by {
-            Some(by) => values[i] = divided_value(plane, &by, i as u16, row),
+            Some(by) => values[i] = divided_value(&plane, &by, i as u16, row),
             None => return false,
         }
     }

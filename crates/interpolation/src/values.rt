@@ -404,10 +404,10 @@ impl<'a> TileValues<'a> {
                 true
             }
             Ratio::Fixed(plane) => {
-                fixed_row(plane, row, from, to, values);
+                fixed_row(*plane, row, from, to, values);
                 true
             }
-            Ratio::Divided(plane) => divided_row(plane, spots, row, from, to, values),
+            Ratio::Divided(plane) => divided_row(*plane, spots, row, from, to, values),
         }
     }
 

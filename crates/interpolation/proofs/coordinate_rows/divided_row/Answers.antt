@@ -23,6 +23,6 @@ loop-i-preserved c =
       done = λ divisor are.
           let here : by.divisor ≡ divisor i = rw found at (are i c.loop-i.auto.i c.loop-i-test.true) in
           placed values c.args.from i c.divided_value.result
-          (λ j. nearest_fixed (floor_div (plane_at c.args.plane.now j c.args.row) (unsigned_abs (divisor j)))) inside
+          (λ j. nearest_fixed (floor_div (plane_at c.args.plane j c.args.row) (unsigned_abs (divisor j)))) inside
           (c.loop-i.invariant.done divisor are) (rw here at c.divided_value.ensures);
     }

@@ -12,6 +12,6 @@ loop-i-preserved c =
     let inside : i < length values = omega (arith, c.loop-i.invariant.len, c.requires.to, c.loop-i-test.true) in
     record {
       len = length-set values i c.fixed_value.result ∙ c.loop-i.invariant.len;
-      done = placed values c.args.from i c.fixed_value.result (λ j. nearest_fixed (fixed_at c.args.plane.now j c.args.row)) inside c.loop-i.invariant.done
+      done = placed values c.args.from i c.fixed_value.result (λ j. nearest_fixed (fixed_at c.args.plane j c.args.row)) inside c.loop-i.invariant.done
           c.fixed_value.ensures;
     }
