@@ -1,10 +1,16 @@
 -- What was found out of the pixels of a row of a tile.
 use Rattle.std.specs.Prelude.{◌≡◌, ℕ, ◌≤◌, true}
+use Rattle.fx_arith.specs.Number.{component, fixed}
+use Rattle.interpolation.specs.declared.coordinates.Coordinates.{Coordinates}
 use Rattle.interpolation.specs.Rows.{AreRowCoordinates, AreSpotsOf}
 use Rattle.interpolation.specs.TileValues.{OnTile}
 use Rattle.texture_env.specs.declared.line.Line.{Line}
 use Rattle.texture_env.specs.declared.lines.Lines.{Lines}
 use Rattle.texture_env.specs.declared.unit_line.UnitLine.{UnitLine}
+
+-- what a line holds in a column, as coordinates that are known
+abbrev pub known_at : UnitLine → ℕ → Coordinates
+known_at line column = record { s = fixed (component line.s column); t = fixed (component line.t column); known = true }
 
 -- where they are known they are the unit's coordinates at the pixels of the row in these columns
 abbrev pub IsUnitLineOf : OnTile → (unit row first end : ℕ) → UnitLine → Type 0

@@ -18,6 +18,9 @@ pub fn coordinate_row(at: &RowValues<'_>, k: usize, bits: u16, s: &mut [Fx; 16],
     ensures s { (i : ℕ) → i < 16 → bit_at bits i ≡ 1 → component s.new i ≡ s_at at.now.on.prim k (x_of at.now.on i) (y_of at.now.on at.now.row) }
     ensures t { (i : ℕ) → i < 16 → bit_at bits i ≡ 1 → component t.new i ≡ t_at at.now.on.prim k (x_of at.now.on i) (y_of at.now.on at.now.row) }
 {
+    if at.known_coordinates(k, bits, s, t) {
+        return;
+    }
     for i in 0..16 {
         let set = is_set(bits, i);
         let found = coordinates_where(set, at, k, i as u16);
@@ -49,6 +52,9 @@ pub fn rho_row(at: &RowValues<'_>, k: usize, w: u16, h: u16, bits: u16, rhos: &m
     ensures { (i : ℕ) → i < 16 → bit_at bits i ≡ 1
         → slice_index rhos.new i ≡ rho_of at.now.on.prim k w h (x_of at.now.on i) (y_of at.now.on at.now.row) }
 {
+    if at.known_rhos(k, w, h, bits, rhos) {
+        return;
+    }
     for i in 0..16 {
         let set = is_set(bits, i);
         rhos[i] = rho_where(set, at, k, w, h, i as u16);

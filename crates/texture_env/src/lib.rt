@@ -19,6 +19,7 @@ mod environment;
 mod environment_tests;
 mod fog;
 mod functions;
+mod known_rows;
 mod line;
 mod lines;
 mod modes;

@@ -1,9 +1,11 @@
 //! What was found out of the pixels of a row of a tile.
-ghost use Rattle.std.specs.Prelude.{◌≡◌, ℕ, ◌<◌, ◌≤◌, IsTrue, true};
+ghost use Rattle.std.specs.Prelude.{◌≡◌, ℕ, ◌<◌, ◌≤◌, IfSome, IsTrue, true};
 ghost use Rattle.std.specs.Int.{bit_at};
+ghost use Rattle.std.specs.Option.{option_copied};
 ghost use Rattle.gl_records.specs.Coverage.{covers};
 ghost use Rattle.gl_records.specs.Interpolation.{interpolated_color as color_of_corners};
 ghost use Rattle.interpolation.specs.Coordinates.{AreCoordinates};
+ghost use Rattle.interpolation.specs.Rows.{AreRowCoordinates};
 ghost use Rattle.interpolation.specs.TileValues.{IsSpotOf, OnTile, x_of, y_of};
 ghost use Rattle.texture_env.specs.Lines.{IsLineOf, IsUnitLineOf};
 ghost use Rattle.texture_env.specs.Rows.{HaveColors};
@@ -136,11 +138,20 @@ impl Line {
         requires line { IsLineOf values.now self.now }
         ensures { AreCoordinates result values.now.prim k (x_of values.now column) (y_of values.now row) }
     {
-        if self.has(column, row) {
-            let spot = &self.spots[usize::from(column)];
-            self.unit(k).at(values, k, spot, self.first, self.end)
+        values.coordinates(k, &self.spot(values, column, row))
+    }
+
+    /// A unit's coordinates at the pixels of this row in the columns from `from` up to but not including `to`, where they
+    /// are known for all of these.
+    pub fn known(&self, k: usize, row: u16, from: usize, to: usize) -> Option<&UnitLine>
+        requires unit { k < 2 }
+        ensures { (on : OnTile) → IsLineOf on self.now → IfSome (option_copied result) (λ line. AreRowCoordinates on k row from to line.s line.t) }
+    {
+        let unit = self.unit(k);
+        if unit.known && self.row == row && self.first <= from && to <= self.end {
+            Some(unit)
         } else {
-            coordinates_beside(values, k, column, row)
+            None
         }
     }
 
@@ -161,14 +172,4 @@ impl Line {
         let column = usize::from(column);
         self.row == row && self.first <= column && column < self.end
     }
-}
-
-/// A unit's coordinates at a pixel that isn't there.
-fn coordinates_beside(values: &TileValues<'_>, k: usize, column: u16, row: u16) -> Coordinates
-    requires unit { k < 2 }
-    requires column { column ≤ 16 }
-    requires row { row ≤ 16 }
-    ensures { AreCoordinates result values.now.prim k (x_of values.now column) (y_of values.now row) }
-{
-    values.coordinates(k, &values.spot(column, row))
 }

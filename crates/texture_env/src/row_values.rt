@@ -1,19 +1,25 @@
 //! The values of a primitive along a row of a tile.
-ghost use Rattle.std.specs.Prelude.{◌≡◌, ◌<◌, ◌+◌, IsTrue, true};
+ghost use Rattle.std.specs.Prelude.{◌≡◌, ℕ, ◌<◌, ◌+◌, IsTrue, slice_index, true};
+ghost use Rattle.std.specs.Int.{bit_at};
+ghost use Rattle.fx_arith.specs.Number.{component};
 ghost use Rattle.gl_records.specs.Coverage.{covers};
 ghost use Rattle.gl_records.specs.FogColor.{fog_byte as fog_byte_of};
 ghost use Rattle.gl_records.specs.Interpolation.{interpolated_color as color_of_corners};
 ghost use Rattle.gl_records.specs.LevelOfDetail.{rho as rho_of};
+ghost use Rattle.gl_records.specs.TextureCoordinate.{s_at, t_at};
 ghost use Rattle.interpolation.specs.Coordinates.{AreCoordinates};
 ghost use Rattle.interpolation.specs.TileValues.{x_of, y_of};
 ghost use Rattle.texture_env.specs.Lines.{IsLineOf};
 ghost use Rattle.texture_env.specs.Rows.{AreCoveredOn, HaveColors};
 
+use crate::known_rows::{known_coordinate_row, known_move_row};
 use crate::line::Line;
 use crate::moves::greatest_move;
+use fx_arith::Fx;
 use gl_records::PrimKind;
 use interpolation::{Coordinates, TileValues};
 use std::marker::Model;
+use texel_sampler::run_of;
 
 /// A row of a tile, with the pixels that were found of it and of the next one.
 #[derive(Drop)]
@@ -97,6 +103,52 @@ impl<'a> RowValues<'a> {
     {
         let here = self.here;
         here.coordinates(self.values, k, column, self.row)
+    }
+
+    /// The coordinates of unit `k` at the pixels whose bits are set, where they are known at all of these.
+    pub fn known_coordinates(&self, k: usize, bits: u16, s: &mut [Fx; 16], t: &mut [Fx; 16]) -> bool
+        requires { k < 2 }
+        ensures s { result ≡ true → (i : ℕ) → i < 16 → bit_at bits i ≡ 1
+            → component s.new i ≡ s_at self.now.on.prim k (x_of self.now.on i) (y_of self.now.on self.now.row) }
+        ensures t { result ≡ true → (i : ℕ) → i < 16 → bit_at bits i ≡ 1
+            → component t.new i ≡ t_at self.now.on.prim k (x_of self.now.on i) (y_of self.now.on self.now.row) }
+    {
+        let (first, end) = run_of(bits);
+        let here = self.here;
+        match here.known(k, self.row, first, end) {
+            Some(line) => {
+                known_coordinate_row(line, s, t);
+                true
+            }
+            None => false,
+        }
+    }
+
+    /// Each rho of unit `k` at the pixels whose bits are set, in 1/65536 texel of a level 0 of `w` by `h` texels, where
+    /// the coordinates are known at all of these and at the next ones.
+    pub fn known_rhos(&self, k: usize, w: u16, h: u16, bits: u16, rhos: &mut [u64; 16]) -> bool
+        requires { k < 2 }
+        ensures { result ≡ true → (i : ℕ) → i < 16 → bit_at bits i ≡ 1
+            → slice_index rhos.new i ≡ rho_of self.now.on.prim k w h (x_of self.now.on i) (y_of self.now.on self.now.row) }
+    {
+        let values = self.values;
+        let prim = values.prim();
+        if let PrimKind::Point = prim.kind {
+            return false;
+        }
+        let (first, end) = run_of(bits);
+        let here = self.here;
+        let above = self.above;
+        match (
+            here.known(k, self.row, first, end + 1),
+            above.known(k, self.row + 1, first, end),
+        ) {
+            (Some(here), Some(above)) => {
+                known_move_row(here, above, w, h, rhos);
+                true
+            }
+            _ => false,
+        }
     }
 
     /// Rho of unit `k`, in 1/65536 texel of a level 0 of `w` by `h` texels.
